@@ -1,0 +1,4 @@
+pub mod Formulas
+pub mod Modes
+pub mod Tables
+pub mod Rows
