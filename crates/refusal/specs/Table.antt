@@ -1,5 +1,7 @@
--- The table of refusals: the number of each, and of a fault what was refused.
+-- The table of refusals: the number of each, and of a fault what was refused and by which layer.
 use Prim.Native.Nat.{ℕ}
+use mathlib.Core.List.{List}
+use lib.Chars.{codes}
 use Rattle.refusal.specs.declared.Refusal.{Refusal}
 use Rattle.refusal.specs.declared.Refusal.the-variants as reason
 use Rattle.refusal.specs.declared.Fault.{Fault}
@@ -38,3 +40,8 @@ abbrev pub refusalOf : Fault → Refusal
 refusalOf (Input refusal) = refusal
 refusalOf (Plate refusal) = refusal
 refusalOf (Stage refusal) = refusal
+
+abbrev pub layerOf : Fault → List ℕ
+layerOf (Input refusal) = codes "input"
+layerOf (Plate refusal) = codes "plate"
+layerOf (Stage refusal) = codes "stage"

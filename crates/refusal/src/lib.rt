@@ -1,7 +1,7 @@
 // Why a call says no: every refusal of the project, by name, with the number that its users know, and the layer that refused.
 // Promise: `number` gives the number of the table, one for each name. The table is specs/Table.antt, and in prose docs/REFUSALS.md.
 ghost use mathlib.Core.Path.{_≡_};
-ghost use Rattle.refusal.specs.Table.{numberOf, refusalOf};
+ghost use Rattle.refusal.specs.Table.{numberOf, refusalOf, layerOf};
 
 #[derive(Clone, Copy, PartialEq, Eq, Debug)]
 pub enum Refusal {
@@ -86,6 +86,17 @@ impl Fault {
     {
         match self {
             Fault::Input(refusal) | Fault::Plate(refusal) | Fault::Stage(refusal) => refusal,
+        }
+    }
+
+    // The layer's name, as it is printed.
+    pub fn layer(self) -> &'static str
+        ensures { λ r. ⌜ now r ≡ layerOf self ⌝ }
+    {
+        match self {
+            Fault::Input(_) => "input",
+            Fault::Plate(_) => "plate",
+            Fault::Stage(_) => "stage",
         }
     }
 }
