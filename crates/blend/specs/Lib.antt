@@ -1,4 +1,3 @@
-pub mod Formulas
 pub mod Modes
 pub mod Tables
 pub mod Rows

@@ -5,7 +5,7 @@ use mathlib.Core.List.{List}
 use lib.Dec.{ltb}
 use lib.ListN.{length, getD}
 use lib.Ieee.{Float, nan}
-use Rattle.blend.specs.declared.formulas.Operands.{Operands}
+use Rattle.formulas.specs.declared.Operands.{Operands}
 
 -- the four floats at column k
 abbrev pub operandsAt : (base new baseAlpha newAlpha : List Float) → ℕ → Operands

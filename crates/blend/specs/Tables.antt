@@ -6,9 +6,9 @@ use lib.Dec.{eqb}
 use lib.Ieee.{Float}
 use Rattle.std.specs.declared.option.Option.{Option}
 use Rattle.std.specs.declared.option.Option.the-variants.{Some, None}
-use Rattle.blend.specs.Formulas.{exchanged, clampNew, clampNewAlpha, replaceOf, addOf, mulOf, skipOf, mixAlphaOf, mulAddOf, blendOf}
+use Rattle.formulas.specs.Formulas.{exchanged, clampNew, clampNewAlpha, replaceOf, addOf, mulOf, skipOf, mixAlphaOf, mulAddOf, blendOf}
 use Rattle.blend.specs.Modes.{hasExtra, premultipliedAt}
-use Rattle.blend.specs.declared.formulas.Operands.{Operands}
+use Rattle.formulas.specs.declared.Operands.{Operands}
 use Rattle.blend.specs.declared.modes.FrameBlendMode.{FrameBlendMode}
 use Rattle.blend.specs.declared.modes.FrameBlendMode.the-variants as frame
 use Rattle.blend.specs.declared.modes.PatchBlendMode.{PatchBlendMode}

@@ -2,12 +2,12 @@
 ghost use mathlib.Core.Path.{_≡_};
 ghost use Rattle.blend.specs.Modes.{premultipliedAt};
 ghost use Rattle.blend.specs.Tables.{frameMode, patchMode, alphaOf, alphaRead, isOwn, formula};
-use crate::formulas::Operands;
 use crate::modes::FrameBlendMode;
 use crate::modes::FrameBlendModeDebug;
 use crate::modes::Kind;
 use crate::modes::PatchBlendMode;
 use crate::modes::PatchBlendModeDebug;
+use formulas::Operands;
 
 // A frame's record: how its channels meet the canvas of the source slot.
 #[derive(Clone, Copy, Debug)]
@@ -48,14 +48,14 @@ pub enum BlendMode {
 }
 
 // Whether a channel is the extra channel of that number.
-pub fn is_own(channel: usize, color_channels: usize, alpha_channel: u8) -> bool
+fn is_own(channel: usize, color_channels: usize, alpha_channel: u8) -> bool
     ensures { λ r. ⌜ r ≡ isOwn channel «color_channels» «alpha_channel» ⌝ }
 {
     channel >= color_channels && channel - color_channels == alpha_channel as usize
 }
 
 // Whether the extra channel of that number exists and holds premultiplied alpha.
-pub fn is_premultiplied(kinds: &[Kind], alpha_channel: u8) -> bool
+fn is_premultiplied(kinds: &[Kind], alpha_channel: u8) -> bool
     ensures { λ r. ⌜ r ≡ premultipliedAt (now (kinds .entry)) «alpha_channel» ⌝ }
 {
     let alpha = alpha_channel as usize;
@@ -64,19 +64,32 @@ pub fn is_premultiplied(kinds: &[Kind], alpha_channel: u8) -> bool
 
 impl BlendMode {
     // The formula of a frame's record at a channel.
-    pub fn from_blending_info(channel: usize, color_channels: usize, info: BlendingInfo, kinds: &[Kind]) -> BlendMode
+    pub fn from_blending_info(
+        channel: usize,
+        color_channels: usize,
+        info: BlendingInfo,
+        kinds: &[Kind],
+    ) -> BlendMode
         ensures { λ r. ⌜ r ≡ frameMode channel «color_channels» info (now (kinds .entry)) ⌝ }
     {
         let clamp = info.clamp;
         let own = is_own(channel, color_channels, info.alpha_channel);
         let premultiplied = is_premultiplied(kinds, info.alpha_channel);
-        let alpha = BlendAlpha { channel: info.alpha_channel, clamp, swapped: false, premultiplied };
+        let alpha = BlendAlpha {
+            channel: info.alpha_channel,
+            clamp,
+            swapped: false,
+            premultiplied,
+        };
         let has_extra = !kinds.is_empty();
         match info.mode {
             FrameBlendMode::Replace => BlendMode::Replace,
             FrameBlendMode::Add => BlendMode::Add,
             FrameBlendMode::Blend if !has_extra => BlendMode::Replace,
-            FrameBlendMode::Blend if own => BlendMode::MixAlpha { clamp, swapped: false },
+            FrameBlendMode::Blend if own => BlendMode::MixAlpha {
+                clamp,
+                swapped: false,
+            },
             FrameBlendMode::Blend => BlendMode::Blend(alpha),
             FrameBlendMode::MulAdd if !has_extra => BlendMode::Add,
             FrameBlendMode::MulAdd if own => BlendMode::Skip,
@@ -97,22 +110,40 @@ impl BlendMode {
         let clamp = info.clamp;
         let own = is_own(channel, color_channels, info.alpha_channel);
         let premultiplied = is_premultiplied(kinds, info.alpha_channel);
-        let above = BlendAlpha { channel: info.alpha_channel, clamp, swapped: false, premultiplied };
-        let below = BlendAlpha { channel: info.alpha_channel, clamp, swapped: true, premultiplied };
-        Some(match info.mode {
-            PatchBlendMode::None => return None,
-            PatchBlendMode::Replace => BlendMode::Replace,
-            PatchBlendMode::Add => BlendMode::Add,
-            PatchBlendMode::Mul => BlendMode::Mul(clamp),
-            PatchBlendMode::BlendAbove if own => BlendMode::MixAlpha { clamp, swapped: false },
-            PatchBlendMode::BlendAbove => BlendMode::Blend(above),
-            PatchBlendMode::BlendBelow if own => BlendMode::MixAlpha { clamp, swapped: true },
-            PatchBlendMode::BlendBelow => BlendMode::Blend(below),
-            PatchBlendMode::MulAddAbove if own => BlendMode::Skip,
-            PatchBlendMode::MulAddAbove => BlendMode::MulAdd(above),
-            PatchBlendMode::MulAddBelow if own => BlendMode::Replace,
-            PatchBlendMode::MulAddBelow => BlendMode::MulAdd(below),
-        })
+        let above = BlendAlpha {
+            channel: info.alpha_channel,
+            clamp,
+            swapped: false,
+            premultiplied,
+        };
+        let below = BlendAlpha {
+            channel: info.alpha_channel,
+            clamp,
+            swapped: true,
+            premultiplied,
+        };
+        Some(
+            match info.mode {
+                PatchBlendMode::None => return None,
+                PatchBlendMode::Replace => BlendMode::Replace,
+                PatchBlendMode::Add => BlendMode::Add,
+                PatchBlendMode::Mul => BlendMode::Mul(clamp),
+                PatchBlendMode::BlendAbove if own => BlendMode::MixAlpha {
+                    clamp,
+                    swapped: false,
+                },
+                PatchBlendMode::BlendAbove => BlendMode::Blend(above),
+                PatchBlendMode::BlendBelow if own => BlendMode::MixAlpha {
+                    clamp,
+                    swapped: true,
+                },
+                PatchBlendMode::BlendBelow => BlendMode::Blend(below),
+                PatchBlendMode::MulAddAbove if own => BlendMode::Skip,
+                PatchBlendMode::MulAddAbove => BlendMode::MulAdd(above),
+                PatchBlendMode::MulAddBelow if own => BlendMode::Replace,
+                PatchBlendMode::MulAddBelow => BlendMode::MulAdd(below),
+            },
+        )
     }
 
     // The extra channel that the formula reads as alpha.
@@ -135,11 +166,16 @@ impl BlendMode {
             BlendMode::Add => operands.add(),
             BlendMode::Mul(clamp) => operands.clamp_new(clamp).mul(),
             BlendMode::Blend(alpha) => {
-                let seen = operands.exchanged(alpha.swapped).clamp_new_alpha(alpha.clamp);
+                let seen = operands
+                    .exchanged(alpha.swapped)
+                    .clamp_new_alpha(alpha.clamp);
                 seen.blend(alpha.premultiplied)
             }
             BlendMode::MulAdd(alpha) => {
-                operands.exchanged(alpha.swapped).clamp_new_alpha(alpha.clamp).mul_add()
+                operands
+                    .exchanged(alpha.swapped)
+                    .clamp_new_alpha(alpha.clamp)
+                    .mul_add()
             }
             BlendMode::MixAlpha { clamp, swapped } => {
                 operands.exchanged(swapped).clamp_new(clamp).mix_alpha()

@@ -3,13 +3,13 @@ ghost use mathlib.Core.Path.{_≡_};
 ghost use Prim.Native.Nat.{ℕ, _<_, _≤_};
 ghost use lib.ListN.{length, getD};
 ghost use lib.Ieee.{Float, nan};
-ghost use Rattle.blend.specs.declared.formulas.Operands.{Operands};
+ghost use Rattle.formulas.specs.declared.Operands.{Operands};
 ghost use Rattle.blend.specs.declared.records.BlendMode.the-variants.{Replace, Add, Mul, Blend, MulAdd, MixAlpha};
 ghost use Rattle.blend.specs.Tables.{formula};
 ghost use Rattle.blend.specs.Rows.{common, rowAt};
-use crate::formulas::Operands;
 use crate::records::BlendAlpha;
 use crate::records::BlendMode;
+use formulas::Operands;
 
 // A formula whose mode is known before the loop begins.
 trait Kernel: Copy {
@@ -60,7 +60,10 @@ impl Kernel for Blending as BlendingKernel {
 
     fn sample(self, operands: Operands) -> f32 {
         let alpha = self.0;
-        operands.exchanged(alpha.swapped).clamp_new_alpha(alpha.clamp).blend(alpha.premultiplied)
+        operands
+            .exchanged(alpha.swapped)
+            .clamp_new_alpha(alpha.clamp)
+            .blend(alpha.premultiplied)
     }
 }
 
@@ -72,7 +75,10 @@ impl Kernel for MultiplyingAdding as MultiplyingAddingKernel {
 
     fn sample(self, operands: Operands) -> f32 {
         let alpha = self.0;
-        operands.exchanged(alpha.swapped).clamp_new_alpha(alpha.clamp).mul_add()
+        operands
+            .exchanged(alpha.swapped)
+            .clamp_new_alpha(alpha.clamp)
+            .mul_add()
     }
 }
 
@@ -86,12 +92,22 @@ impl Kernel for Mixing as MixingKernel {
     ghost made = { λ kernel o. formula (MixAlpha (kernel .clamp) (kernel .swapped)) o };
 
     fn sample(self, operands: Operands) -> f32 {
-        operands.exchanged(self.swapped).clamp_new(self.clamp).mix_alpha()
+        operands
+            .exchanged(self.swapped)
+            .clamp_new(self.clamp)
+            .mix_alpha()
     }
 }
 
 // The first `count` columns of `base` by the kernel.
-fn draw<K: Kernel>(kernel: K, count: usize, base: &mut [f32], new: &[f32], base_alpha: &[f32], new_alpha: &[f32])
+fn draw<K: Kernel>(
+    kernel: K,
+    count: usize,
+    base: &mut [f32],
+    new: &[f32],
+    base_alpha: &[f32],
+    new_alpha: &[f32],
+)
     requires { ⌜ count ≤ length (now base) ⌝ ∗ ⌜ count ≤ length (now new) ⌝ ∗ ⌜ count ≤ length (now «base_alpha») ⌝ ∗ ⌜ count ≤ length (now «new_alpha») ⌝ }
     ensures { λ _. ⌜ ((k : ℕ) → getD (now (base .exit)) k nan ≡ rowAt (K·Kernel .made kernel) count (now (base .entry)) (now (new .entry)) (now («base_alpha» .entry)) (now («new_alpha» .entry)) k) ⌝ }
 {
@@ -107,18 +123,40 @@ fn draw<K: Kernel>(kernel: K, count: usize, base: &mut [f32], new: &[f32], base_
 }
 
 // Draws the row `new` onto the row `base` by the formula, in every column that all four rows have.
-pub fn blend_single(mode: BlendMode, base: &mut [f32], new: &[f32], base_alpha: &[f32], new_alpha: &[f32])
+pub fn blend_single(
+    mode: BlendMode,
+    base: &mut [f32],
+    new: &[f32],
+    base_alpha: &[f32],
+    new_alpha: &[f32],
+)
     ensures { λ _. ⌜ ((k : ℕ) → getD (now (base .exit)) k nan ≡ rowAt (formula mode) (common (now (base .entry)) (now (new .entry)) (now («base_alpha» .entry)) (now («new_alpha» .entry))) (now (base .entry)) (now (new .entry)) (now («base_alpha» .entry)) (now («new_alpha» .entry)) k) ⌝ }
 {
-    let count = base.len().min(new.len()).min(base_alpha.len().min(new_alpha.len()));
+    let count = base.len()
+        .min(new.len())
+        .min(base_alpha.len().min(new_alpha.len()));
     match mode {
         BlendMode::Replace => draw(Replacing, count, base, new, base_alpha, new_alpha),
         BlendMode::Add => draw(Adding, count, base, new, base_alpha, new_alpha),
         BlendMode::Mul(clamp) => draw(Multiplying(clamp), count, base, new, base_alpha, new_alpha),
         BlendMode::Blend(alpha) => draw(Blending(alpha), count, base, new, base_alpha, new_alpha),
-        BlendMode::MulAdd(alpha) => draw(MultiplyingAdding(alpha), count, base, new, base_alpha, new_alpha),
+        BlendMode::MulAdd(alpha) => draw(
+            MultiplyingAdding(alpha),
+            count,
+            base,
+            new,
+            base_alpha,
+            new_alpha,
+        ),
         BlendMode::MixAlpha { clamp, swapped } => {
-            draw(Mixing { clamp, swapped }, count, base, new, base_alpha, new_alpha)
+            draw(
+                Mixing { clamp, swapped },
+                count,
+                base,
+                new,
+                base_alpha,
+                new_alpha,
+            )
         }
         BlendMode::Skip => {}
     }

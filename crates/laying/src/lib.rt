@@ -29,15 +29,29 @@ pub fn refused_by(input: &[u8]) -> Option<Refused>
     ensures { λ r. ⌜ r ≡ refusedBy (length (now (input .entry))) ⌝ }
 {
     if input.len() > LONGEST_INPUT {
-        return Some(Refused { fault: Fault::Input(Refusal::InputLength), plate: 0, byte: LONGEST_INPUT });
+        return Some(Refused {
+            fault: Fault::Input(Refusal::InputLength),
+            plate: 0,
+            byte: LONGEST_INPUT,
+        });
     }
     if input.len() < HEADER_LENGTH {
-        return Some(Refused { fault: Fault::Plate(Refusal::PlateHeader), plate: 0, byte: 0 });
+        return Some(Refused {
+            fault: Fault::Plate(Refusal::PlateHeader),
+            plate: 0,
+            byte: 0,
+        });
     }
     None
 }
 
-fn line(heap: Global, number: u8, layer: &str, plate: usize, byte: usize) -> Result<String, AllocError>
+fn line(
+    heap: Global,
+    number: u8,
+    layer: &str,
+    plate: usize,
+    byte: usize,
+) -> Result<String, AllocError>
     ensures { λ r. ⌜ made r (λ text. string-bytes text ≡ lineOf number (now (layer .entry)) plate byte) ⌝ }
 {
     format!(heap, "refused {number} {layer} {plate} {byte}\n")
@@ -48,7 +62,13 @@ pub fn refused_line(heap: Global, refused: Refused) -> Result<String, AllocError
     ensures { λ r. ⌜ made r (λ text. string-bytes text ≡ refusedLine refused) ⌝ }
 {
     let number = refused.fault.refusal().number();
-    line(heap, number, refused.fault.layer(), refused.plate, refused.byte)
+    line(
+        heap,
+        number,
+        refused.fault.layer(),
+        refused.plate,
+        refused.byte,
+    )
 }
 
 // All that `lay` prints for an input.

@@ -69,25 +69,26 @@ overlap-span a b from to m n k p q e f g = grind (arith, ints, clamps)
 
 -- what `contains` tests says whether every position of the second is one of the first
 pub covers-decides : (r s : Region) → Decides (isEmpty s || (within (r .left) (r .width) (s .left) (s .width) && within (r .top) (r .height) (s .top) (s .height))) (Holds r s)
-covers-decides r s =
-    ( λ t x y h.
-        ⊎-elim
-        (λ e. absurd (both-ways _ (empty-has s x y e) h))
-        (λ w.
-          let ways = and-parts _ _ w in
-          let here = and-parts _ _ h in
-          and-from _ _ (along-within (r .left) (r .width) (s .left) (s .width) x (ways .0) (here .0))
-          (along-within (r .top) (r .height) (s .top) (s .height) y (ways .1) (here .1)))
-        (or-cases (isEmpty s) _ t)
-    , λ h.
-        ⊎-elim (or-left (isEmpty s) _)
-        (λ e.
-          let first = and-parts _ _ (h (s .left) (s .top) (first-has s e)) in
-          let last = and-parts _ _ (h _ _ (last-has s e)) in
-          or-right (isEmpty s) _
-          (and-from _ _ (within-ends (r .left) (r .width) (s .left) (s .width) (first .0) (last .0))
-          (within-ends (r .top) (r .height) (s .top) (s .height) (first .1) (last .1))))
-        (cases-bool (isEmpty s)) )
+covers-decides r s = (
+  λ t x y h.
+      ⊎-elim
+      (λ e. absurd (both-ways _ (empty-has s x y e) h))
+      (λ w.
+      let ways = and-parts _ _ w in
+      let here = and-parts _ _ h in
+      and-from _ _ (along-within (r .left) (r .width) (s .left) (s .width) x (ways .0) (here .0))
+      (along-within (r .top) (r .height) (s .top) (s .height) y (ways .1) (here .1)))
+      (or-cases (isEmpty s) _ t),
+  λ h.
+      ⊎-elim (or-left (isEmpty s) _)
+      (λ e.
+      let first = and-parts _ _ (h (s .left) (s .top) (first-has s e)) in
+      let last = and-parts _ _ (h _ _ (last-has s e)) in
+      or-right (isEmpty s) _
+      (and-from _ _ (within-ends (r .left) (r .width) (s .left) (s .width) (first .0) (last .0))
+      (within-ends (r .top) (r .height) (s .top) (s .height) (first .1) (last .1))))
+      (cases-bool (isEmpty s)),
+)
 
 -- the positions of both axes of both regions, either way round
 pub and-exchange : (a b c d : Bool) → ((a && b) && (c && d)) ≡ ((a && c) && (b && d))

@@ -84,7 +84,12 @@ fn of_axes(left: i32, top: i32, width: u32, height: u32) -> Region
     if width == 0 || height == 0 {
         return Region::empty();
     }
-    Region { left, top, width, height }
+    Region {
+        left,
+        top,
+        width,
+        height,
+    }
 }
 
 // Whether an axis lies within another.
@@ -108,7 +113,12 @@ impl Region {
         ensures { λ r. ⌜ Cases r (λ made. (made .left ≡ left) × (made .top ≡ top) × (made .width ≡ width) × (made .height ≡ height)) (λ refusal. (refusal ≡ NoRegion) × (isRegion left top width height ≡ false)) ⌝ }
     {
         if is_region(left, top, width, height) {
-            Ok(Region { left, top, width, height })
+            Ok(Region {
+                left,
+                top,
+                width,
+                height,
+            })
         } else {
             Err(Refusal::NoRegion)
         }
@@ -118,7 +128,12 @@ impl Region {
     pub fn empty() -> Region
         ensures { λ r. ⌜ isEmpty r ≡ true ⌝ }
     {
-        Region { left: 0, top: 0, width: 0, height: 0 }
+        Region {
+            left: 0,
+            top: 0,
+            width: 0,
+            height: 0,
+        }
     }
 
     // From the origin.
@@ -143,7 +158,8 @@ impl Region {
     pub fn width(self) -> u32
         ensures { λ r. ⌜ r ≡ self .width ⌝ }
     {
-        self.width
+        let Region { width, .. } = self;
+        width
     }
 
     pub fn height(self) -> u32
@@ -209,6 +225,9 @@ impl Region {
     pub fn is_allowed(self) -> bool
         ensures { λ r. ⌜ r ≡ isAllowed self ⌝ }
     {
-        side_allowed(self.width) && side_allowed(self.height) && place_allowed(self.left) && place_allowed(self.top)
+        side_allowed(self.width)
+            && side_allowed(self.height)
+            && place_allowed(self.left)
+            && place_allowed(self.top)
     }
 }

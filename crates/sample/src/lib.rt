@@ -6,7 +6,6 @@ ghost use mathlib.Core.Bool.{Bool, true};
 ghost use Prim.Native.Nat.{ℕ};
 ghost use lib.Ieee.{Float};
 ghost use Rattle.sample.specs.Samples.{partOf, countable};
-
 use std::num::nearest_i32_to_f32;
 use std::num::nearest_u32_to_f32;
 
@@ -91,10 +90,10 @@ pub impl Sample for i16 as I16Sample {
     }
 
     fn is_exact(self) -> bool {
-        true
+        i32::from(self).is_exact()
     }
 
     fn to_f32(self, full: u32) -> f32 {
-        self as f32 / nearest_u32_to_f32(full)
+        i32::from(self).to_f32(full)
     }
 }

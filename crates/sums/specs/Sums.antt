@@ -10,7 +10,7 @@ use Rattle.region.specs.Bounds.{isRegion}
 use Rattle.region.specs.Positions.{has}
 use Rattle.region.specs.declared.Region.{Region}
 use Rattle.blend.specs.Tables.{formula}
-use Rattle.blend.specs.declared.formulas.Operands.{Operands}
+use Rattle.formulas.specs.declared.Operands.{Operands}
 use Rattle.blend.specs.declared.records.BlendAlpha.{BlendAlpha}
 use Rattle.blend.specs.declared.records.BlendMode.{BlendMode}
 use Rattle.blend.specs.declared.records.BlendMode.the-variants.{Mul, Blend, MulAdd, MixAlpha}

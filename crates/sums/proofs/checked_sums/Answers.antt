@@ -8,12 +8,19 @@ use Rattle.sums.proofs.checked_sums.Needs as need
 pub returns : need.returns
 unfolding add sub mul div lt ofBits
 returns c =
-    record
-      { count = refl
-      ; hold =
-          ( refl
-          , ( refl
-            , ( refl
-              , ( refl
-                , (refl, (refl, (refl, (refl, (refl, (λ x y. grind (arith, ints), (λ x y. grind (arith, ints), tt)))))) ) ) ) ) )
-      }
+    record {
+      count = refl;
+      hold = (
+        refl,
+        (
+          refl,
+          (
+            refl,
+            (
+              refl,
+              (refl, (refl, (refl, (refl, (refl, (λ x y. grind (arith, ints), (λ x y. grind (arith, ints), tt))))))),
+            ),
+          ),
+        ),
+      );
+    }

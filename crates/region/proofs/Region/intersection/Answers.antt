@@ -36,9 +36,9 @@ returns c =
     let f5 : SFits w32 (c .overlap-left .result .0) = search needs in
     let f6 : SFits w32 (c .overlap-top .result .0) = search needs in
     λ x y.
-      simp toZ-ofZ at (c .of-axes .ensures x y)
-      ∙ ap (λ b. b && along (c .overlap-top .result .0) (c .overlap-top .result .1) y) (simp toZ-ofZ at (c .overlap-left .ensures .positions x))
-      ∙ ap (λ b. (along (c .args .self .left) (c .args .self .width) x && along (c .args .rhs .left) (c .args .rhs .width) x) && b)
-        (simp toZ-ofZ at (c .overlap-top .ensures .positions y))
-      ∙ and-exchange (along (c .args .self .left) (c .args .self .width) x) (along (c .args .rhs .left) (c .args .rhs .width) x)
-        (along (c .args .self .top) (c .args .self .height) y) (along (c .args .rhs .top) (c .args .rhs .height) y)
+    simp toZ-ofZ at (c .of-axes .ensures x y)
+    ∙ ap (λ b. b && along (c .overlap-top .result .0) (c .overlap-top .result .1) y) (simp toZ-ofZ at (c .overlap-left .ensures .positions x))
+    ∙ ap (λ b. (along (c .args .self .left) (c .args .self .width) x && along (c .args .rhs .left) (c .args .rhs .width) x) && b)
+    (simp toZ-ofZ at (c .overlap-top .ensures .positions y))
+    ∙ and-exchange (along (c .args .self .left) (c .args .self .width) x) (along (c .args .rhs .left) (c .args .rhs .width) x)
+    (along (c .args .self .top) (c .args .self .height) y) (along (c .args .rhs .top) (c .args .rhs .height) y)

@@ -10,9 +10,10 @@ use Rattle.region.proofs.Region.is_empty.Needs as need
 pub returns : need.returns
 returns c =
     let r = c .args .self in
-    record
-      { flag = refl
-      ; positions =
-          ( λ e x y. empty-has r x y e
-          , λ none. ⊎-elim (λ t. t) (λ f. absurd (both-ways _ (none (r .left) (r .top)) (first-has r f))) (cases-bool (isEmpty r)) )
-      }
+    record {
+      flag = refl;
+      positions = (
+        λ e x y. empty-has r x y e,
+        λ none. ⊎-elim (λ t. t) (λ f. absurd (both-ways _ (none (r .left) (r .top)) (first-has r f))) (cases-bool (isEmpty r)),
+      );
+    }

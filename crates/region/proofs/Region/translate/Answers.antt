@@ -25,11 +25,12 @@ returns c =
     let f6 : SFits w32 (c .in-Some-shifted .top) = search needs in
     let across = simp toZ-ofZ at (c .in-Some .ensures tt) in
     let down = simp toZ-ofZ at (c .in-Some-shifted .ensures tt) in
-    let two = sides r (sym (c .is-empty .ensures .flag) ∙ c .if-is-empty .left) in
-    ( or-right (isEmpty r) _ (of-spans (r .left +ℤ x) (r .top +ℤ y) (r .width) (r .height) (across .1) (down .1) (two .0) (two .1))
-    , λ p q.
-        simp toZ-ofZ at (c .of-axes .ensures (p +ℤ x) (q +ℤ y))
-        ∙ ap (λ left. along left (r .width) (p +ℤ x) && along (c .in-Some-shifted .top) (r .height) (q +ℤ y)) (across .0)
-        ∙ ap (λ top. along (r .left +ℤ x) (r .width) (p +ℤ x) && along top (r .height) (q +ℤ y)) (down .0)
-        ∙ ap (λ b. b && along (r .top +ℤ y) (r .height) (q +ℤ y)) (along-moved (r .left) x p (r .width))
-        ∙ ap (λ b. along (r .left) (r .width) p && b) (along-moved (r .top) y q (r .height)) )
+    let two = sides r (sym (c .is-empty .ensures .flag) ∙ c .if-is-empty .left) in (
+      or-right (isEmpty r) _ (of-spans (r .left +ℤ x) (r .top +ℤ y) (r .width) (r .height) (across .1) (down .1) (two .0) (two .1)),
+      λ p q.
+          simp toZ-ofZ at (c .of-axes .ensures (p +ℤ x) (q +ℤ y))
+          ∙ ap (λ left. along left (r .width) (p +ℤ x) && along (c .in-Some-shifted .top) (r .height) (q +ℤ y)) (across .0)
+          ∙ ap (λ top. along (r .left +ℤ x) (r .width) (p +ℤ x) && along top (r .height) (q +ℤ y)) (down .0)
+          ∙ ap (λ b. b && along (r .top +ℤ y) (r .height) (q +ℤ y)) (along-moved (r .left) x p (r .width))
+          ∙ ap (λ b. along (r .left) (r .width) p && b) (along-moved (r .top) y q (r .height)),
+    )

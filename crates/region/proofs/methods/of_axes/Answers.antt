@@ -13,11 +13,11 @@ use Rattle.region.proofs.methods.of_axes.Needs as need
 pub returns-then-width-eq0 : need.returns-then-width-eq0
 returns-then-width-eq0 c =
     λ x y.
-      empty-has (c .empty .result) x y (c .empty .ensures)
-      ∙ sym
-        (⊎-elim (λ e. and-left _ _ (along-none (c .args .left) x (c .args .width) e))
-        (λ e. and-right _ _ (along-none (c .args .top) y (c .args .height) (e .1)))
-        (c .then-width-eq0 .either))
+    empty-has (c .empty .result) x y (c .empty .ensures)
+    ∙ sym
+    (⊎-elim (λ e. and-left _ _ (along-none (c .args .left) x (c .args .width) e))
+    (λ e. and-right _ _ (along-none (c .args .top) y (c .args .height) (e .1)))
+    (c .then-width-eq0 .either))
 
 pub ghost-result : need.ghost-result
 ghost-result c =

@@ -24,13 +24,13 @@ returns c =
     let f5 : SFits w32 to = search needs in
     let begins : from ≡ maxZ a b = simp toZ-ofZ at (c .max-from .ensures .value) in
     let ends : to ≡ maxZ (minZ (a +ℤ pos (c .args .a-size)) (b +ℤ pos (c .args .b-size))) from =
-        simp toZ-ofZ at (c .max-to .ensures .value)
-        ∙ ap (λ z. maxZ z from)
-          (simp toZ-ofZ at (c .min .ensures .value)
-          ∙ ap (λ z. minZ z (c .end-2 .result)) (simp toZ-ofZ at (c .end .ensures))
-          ∙ ap (λ z. minZ (a +ℤ pos (c .args .a-size)) z) (simp toZ-ofZ at (c .end-2 .ensures))) in
+    simp toZ-ofZ at (c .max-to .ensures .value)
+    ∙ ap (λ z. maxZ z from)
+    (simp toZ-ofZ at (c .min .ensures .value)
+    ∙ ap (λ z. minZ z (c .end-2 .result)) (simp toZ-ofZ at (c .end .ensures))
+    ∙ ap (λ z. minZ (a +ℤ pos (c .args .a-size)) z) (simp toZ-ofZ at (c .end-2 .ensures))) in
     let far : to ≡ from +ℤ pos (c .distance .result) = simp toZ-ofZ at (c .distance .ensures) in
-    record
-      { positions = λ at. simp toZ-ofZ (overlap-along a b from to at _ _ _ begins ends far)
-      ; span = simp toZ-ofZ (overlap-span a b from to _ _ _ (c .pre .0) (c .pre .1) begins ends far)
-      }
+    record {
+      positions = λ at. simp toZ-ofZ (overlap-along a b from to at _ _ _ begins ends far);
+      span = simp toZ-ofZ (overlap-span a b from to _ _ _ (c .pre .0) (c .pre .1) begins ends far);
+    }

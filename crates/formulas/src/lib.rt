@@ -1,6 +1,8 @@
-// The seven kernels, over one set of four floats, with clamping and the exchange of old and new.
+// The formulas of blending: seven kernels in f32 over one set of four floats, with clamping and the exchange of old and new.
+// Promise: each equals its written expression bit by bit, every operation rounded once in its order.
+// The definition is specs/Formulas.antt, and in prose docs/FORMULAS.md.
 ghost use mathlib.Core.Path.{_≡_};
-ghost use Rattle.blend.specs.Formulas.{clamped, exchanged, clampNew, clampNewAlpha, replaceOf, addOf, mulOf, skipOf, mixAlphaOf, mulAddOf, blendOf};
+ghost use Rattle.formulas.specs.Formulas.{clamped, exchanged, clampNew, clampNewAlpha, replaceOf, addOf, mulOf, skipOf, mixAlphaOf, mulAddOf, blendOf};
 
 // What a formula reads: the old sample and the new one, and the alpha of each.
 #[derive(Clone, Copy, Debug)]
@@ -30,7 +32,12 @@ impl Operands {
         ensures { λ r. ⌜ r ≡ exchanged swapped self ⌝ }
     {
         if swapped {
-            Operands { base: self.new, new: self.base, base_alpha: self.new_alpha, new_alpha: self.base_alpha }
+            Operands {
+                base: self.new,
+                new: self.base,
+                base_alpha: self.new_alpha,
+                new_alpha: self.base_alpha,
+            }
         } else {
             self
         }
@@ -48,14 +55,19 @@ impl Operands {
     pub fn clamp_new_alpha(self, asked: bool) -> Operands
         ensures { λ r. ⌜ r ≡ clampNewAlpha asked self ⌝ }
     {
-        let new_alpha = if asked { clamp(self.new_alpha) } else { self.new_alpha };
+        let new_alpha = if asked {
+            clamp(self.new_alpha)
+        } else {
+            self.new_alpha
+        };
         Operands { new_alpha, ..self }
     }
 
     pub fn replace(self) -> f32
         ensures { λ r. ⌜ r ≡ replaceOf self ⌝ }
     {
-        self.new
+        let Operands { new, .. } = self;
+        new
     }
 
     pub fn add(self) -> f32
@@ -73,20 +85,21 @@ impl Operands {
     pub fn skip(self) -> f32
         ensures { λ r. ⌜ r ≡ skipOf self ⌝ }
     {
-        self.base
+        let Operands { base, .. } = self;
+        base
     }
 
     // An alpha channel onto itself.
     pub fn mix_alpha(self) -> f32
         ensures { λ r. ⌜ r ≡ mixAlphaOf self ⌝ }
     {
-        self.base + self.new * (1.0 - self.base)
+        self.base + (self.new * (1.0 - self.base))
     }
 
     pub fn mul_add(self) -> f32
         ensures { λ r. ⌜ r ≡ mulAddOf self ⌝ }
     {
-        self.base + self.new_alpha * self.new
+        self.base + (self.new_alpha * self.new)
     }
 
     // New over old. With premultiplied alpha the samples hold their alpha already.
@@ -98,7 +111,12 @@ impl Operands {
             return self.new + self.base * new_alpha_rev;
         }
         let mixed_alpha = 1.0 - new_alpha_rev * (1.0 - self.base_alpha);
-        let mixed_alpha_recip = if mixed_alpha > 0.0 { 1.0 / mixed_alpha } else { 0.0 };
-        (self.new_alpha * self.new + self.base_alpha * self.base * new_alpha_rev) * mixed_alpha_recip
+        let mixed_alpha_recip = if mixed_alpha > 0.0 {
+            1.0 / mixed_alpha
+        } else {
+            0.0
+        };
+        (self.new_alpha * self.new + self.base_alpha * self.base * new_alpha_rev)
+            * mixed_alpha_recip
     }
 }

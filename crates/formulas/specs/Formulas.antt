@@ -3,13 +3,12 @@ use mathlib.Core.Bool.{Bool, cond}
 use lib.Ieee as f32
 use lib.Ieee.{Float, binary32, lt}
 use Rattle.sample.specs.Samples.{zero, one}
-use Rattle.blend.specs.declared.formulas.Operands.{Operands}
+use Rattle.formulas.specs.declared.Operands.{Operands}
 
 infixl 30 _⊕_
 infixl 30 _⊖_
 infixl 40 _⊗_
 infixl 40 _⊘_
-
 abbrev pub _⊕_ : Float → Float → Float
 x ⊕ y = f32.add binary32 x y
 
