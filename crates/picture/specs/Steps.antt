@@ -1,0 +1,16 @@
+-- Words of the inner contracts, for steps along rows; what a picture means is said without them.
+use Prim.Native.Nat.{ℕ}
+use mathlib.Core.Bool.{Bool, _&&_, cond}
+use lib.Dec.{ltb}
+use lib.IntN.{ℤ, _-ℤ_, natAbs}
+use lib.Signed.{ltZ}
+use Rattle.region.specs.Positions.{along}
+use Rattle.region.specs.declared.Region.{Region}
+
+-- how far it is from one coordinate up to another; 0 where that comes first
+abbrev pub gapOf : ℤ → ℤ → ℕ
+gapOf from to = cond (ltZ from to) (natAbs (to -ℤ from)) 0
+
+-- whether a channel has a row at this coordinate
+abbrev pub crosses : ℕ → Region → (channel : ℕ) → ℤ → Bool
+crosses channels region channel y = ltb channel channels && along (region .top) (region .height) y

@@ -1,0 +1,5 @@
+pub mod Changes
+pub mod Inside
+pub mod Numbers
+pub mod Places
+pub mod Runs
