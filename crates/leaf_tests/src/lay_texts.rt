@@ -10,5 +10,8 @@ fn inputs_too_short_and_too_long(rt: LibcRuntime) -> Result<(), Fail> {
     check_eq(printout(heap, &[])?.as_str(), "refused 17 plate 0 0\n")?;
     check_eq(printout(heap, &[1; 63])?.as_str(), "refused 17 plate 0 0\n")?;
     check_eq(printout(heap, longest.as_slice())?.as_str(), "")?;
-    check_eq(printout(heap, longer.as_slice())?.as_str(), "refused 21 input 0 65536\n")
+    check_eq(
+        printout(heap, longer.as_slice())?.as_str(),
+        "refused 21 input 0 65536\n",
+    )
 }

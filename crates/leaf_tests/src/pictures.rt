@@ -14,7 +14,12 @@ use sample::I32Sample;
 use sample::Sample;
 use std::test::*;
 
-fn refusal<T: Sample>(channels: usize, region: Region, samples: &[T], depth: u32) -> Option<Refusal> {
+fn refusal<T: Sample>(
+    channels: usize,
+    region: Region,
+    samples: &[T],
+    depth: u32,
+) -> Option<Refusal> {
     match Grid::new(channels, region, samples, depth) {
         Ok(_) => None,
         Err(refusal) => Some(refusal),
@@ -29,7 +34,10 @@ fn grids_that_are_refused() -> Result<(), Fail> {
     check_eq(refusal(0, dot, &[0.0f32; 0], 0), shape)?;
     check_eq(refusal(12, dot, &[0.0f32; 12], 0), shape)?;
     check_eq(refusal(1, dot, &[0.0f32; 2], 0), shape)?;
-    check_eq(refusal(1, Region::with_size(16_385, 1)?, &[0.0f32; 1], 9), shape)?;
+    check_eq(
+        refusal(1, Region::with_size(16_385, 1)?, &[0.0f32; 1], 9),
+        shape,
+    )?;
     check_eq(refusal(11, dot, &[0.0f32; 11], 1), depth)?;
     check_eq(refusal(11, dot, &[0.0f32; 11], 0), None)?;
     check_eq(refusal(3, Region::empty(), &[0.0f32; 0], 0), None)?;
@@ -50,7 +58,12 @@ fn shown<T: Sample>(region: Region, samples: &[T], depth: u32, x: i32, y: i32) -
 }
 
 // whether a grid has a row, and how long it is
-fn row_length<T: Sample>(region: Region, samples: &[T], channel: usize, row: usize) -> Option<usize> {
+fn row_length<T: Sample>(
+    region: Region,
+    samples: &[T],
+    channel: usize,
+    row: usize,
+) -> Option<usize> {
     match Grid::new(1, region, samples, T::depth_limit()) {
         Ok(grid) => Some(grid.get_row(channel, row)?.len()),
         Err(_) => None,

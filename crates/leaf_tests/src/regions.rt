@@ -35,7 +35,10 @@ fn limits_of_a_stage() -> Result<(), Fail> {
 #[test]
 fn regions_that_meet() -> Result<(), Fail> {
     let tile = Region::with_size(4, 4)?;
-    check_eq(tile.intersection(Region::new(3, 3, 4, 4)?), Region::new(3, 3, 1, 1)?)?;
+    check_eq(
+        tile.intersection(Region::new(3, 3, 4, 4)?),
+        Region::new(3, 3, 1, 1)?,
+    )?;
     check_eq(tile.intersection(Region::new(4, 0, 2, 2)?), Region::empty())?;
     check_eq(tile.intersection(Region::empty()), Region::empty())?;
     check(tile.contains(Region::new(1, 1, 3, 3)?) && tile.contains(Region::empty()))?;
@@ -49,5 +52,8 @@ fn regions_that_move() -> Result<(), Fail> {
     check_eq(Region::empty().translate(3, 4)?, Region::empty())?;
     check(tile.translate(2_147_483_643, 0).is_ok())?;
     check_eq(tile.translate(2_147_483_644, 0), Err(Refusal::NoRegion))?;
-    check_eq(Region::new(-2_147_483_648, 0, 1, 1)?.translate(-1, 0), Err(Refusal::NoRegion))
+    check_eq(
+        Region::new(-2_147_483_648, 0, 1, 1)?.translate(-1, 0),
+        Err(Refusal::NoRegion),
+    )
 }

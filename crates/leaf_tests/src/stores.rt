@@ -7,7 +7,21 @@ use store::interleaved::InterleavedStore;
 use store::planar::PlanarStore;
 
 // Two planes of 3 columns and 2 rows, and a rest of 1.
-const LEFTOVER: [f32; 13] = [0.0, 1.0, 2.0, 3.0, 4.0, 5.0, 6.0, 7.0, 8.0, 9.0, 10.0, 11.0, 12.0];
+const LEFTOVER: [f32; 13] = [
+    0.0,
+    1.0,
+    2.0,
+    3.0,
+    4.0,
+    5.0,
+    6.0,
+    7.0,
+    8.0,
+    9.0,
+    10.0,
+    11.0,
+    12.0,
+];
 
 fn sizes<S: Store>(store: &S) -> Result<(), Fail> {
     check_eq(store.columns(), 3)?;

@@ -34,13 +34,13 @@ module _ (f : ℕ → Float) (xs first second : List Float) (n : ℕ) where
       let rest : length upper ≡ length xs - n = simp (length-take, length-drop) (omega arith) in
       ⊎-elim
       (λ (l : k < n).
-        getD-append-left (take n halfway) _ nan k (simp length-take (omega arith))
-        ∙ getD-take n halfway k nan l
-        ∙ getD-append-left first _ nan k (omega arith)
-        ∙ low k l)
+      getD-append-left (take n halfway) _ nan k (simp length-take (omega arith))
+      ∙ getD-take n halfway k nan l
+      ∙ getD-append-left first _ nan k (omega arith)
+      ∙ low k l)
       (λ (g : n ≤ k).
-        getD-append-right (take n halfway) _ n k nan (simp length-take (omega arith)) g
-        ∙ getD-append-left second _ nan (k - n) (omega arith)
-        ∙ high (k - n) (omega arith) (omega arith)
-        ∙ ap f (omega arith))
+      getD-append-right (take n halfway) _ n k nan (simp length-take (omega arith)) g
+      ∙ getD-append-left second _ nan (k - n) (omega arith)
+      ∙ high (k - n) (omega arith) (omega arith)
+      ∙ ap f (omega arith))
       (cases-lt k n)

@@ -51,6 +51,6 @@ grid-row value channels r samples row full channel x y h e =
     value-by-rows (gridOf value channels r samples full) channel x y
     ∙ cond-true (crosses channels r channel y) _ _ h
     ∙ cond-where (along (r .left) (r .width) x) _ _ zero
-      (λ t.
-        sym (part-at (λ s. value s full) samples (rowStart r channel (rowOf r y)) (r .width) (columnOf r x) (column-below (r .left) x (r .width) t))
-        ∙ ap (λ l. getD (map (λ s. value s full) l) (columnOf r x) zero) (sym e))
+    (λ t.
+    sym (part-at (λ s. value s full) samples (rowStart r channel (rowOf r y)) (r .width) (columnOf r x) (column-below (r .left) x (r .width) t))
+    ∙ ap (λ l. getD (map (λ s. value s full) l) (columnOf r x) zero) (sym e))

@@ -57,8 +57,8 @@ rowOf region y = natAbs (y -ℤ region .top)
 -- what a grid means: its samples, each by what its kind says
 abbrev pub gridOf : {X : Type 0} → (X → ℕ → Float) → ℕ → Region → List X → ℕ → Meaning
 gridOf value channels region samples full =
-    record
-      { channels = channels
-      ; region = region
-      ; at = λ c x y. getD (map (λ s. value s full) samples) (rowStart region c (rowOf region y) + columnOf region x) zero
-      }
+    record {
+      channels = channels;
+      region = region;
+      at = λ c x y. getD (map (λ s. value s full) samples) (rowStart region c (rowOf region y) + columnOf region x) zero;
+    }

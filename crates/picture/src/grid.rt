@@ -42,7 +42,12 @@ pub impl<'a, T: Sample> Clone for Grid<'a, T> as GridClone {
 
 impl<'a, T: Sample> Grid<'a, T> {
     // The depth is one that the kind has, 0 for a kind that has none.
-    pub fn new(channels: usize, region: Region, samples: &'a [T], depth: u32) -> Result<Grid<'a, T>, Refusal>
+    pub fn new(
+        channels: usize,
+        region: Region,
+        samples: &'a [T],
+        depth: u32,
+    ) -> Result<Grid<'a, T>, Refusal>
         ensures refusal { λ r. ⌜ errPart r ≡ gridRefusal (shapeAllowed channels region (length (now (samples .entry)))) (depthAllowed (T·Sample .deepest) depth && allOf (T·Sample .exact) (now (samples .entry))) ⌝ }
         ensures grid { λ r. ⌜ made r (λ g. (g .channels ≡ channels) × (g .region ≡ region) × (g .full ≡ fullOf depth) × (g .samples ≡ samples .entry)) ⌝ }
     {
@@ -52,7 +57,12 @@ impl<'a, T: Sample> Grid<'a, T> {
         if !shapes::depth_allowed(T::depth_limit(), depth) || !shapes::all_exact(samples) {
             return Err(Refusal::SampleDepth);
         }
-        Ok(Grid { channels, region, full: shapes::full_of(depth), samples })
+        Ok(Grid {
+            channels,
+            region,
+            full: shapes::full_of(depth),
+            samples,
+        })
     }
 
     // That very part of the caller's slice; none where the channel or the row is missing.

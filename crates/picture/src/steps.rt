@@ -18,14 +18,22 @@ pub(crate) fn right_of(x: i32, k: usize) -> Option<i32>
         return None;
     };
     let at = i64::from(x) + i64::from(k);
-    if at <= 2_147_483_647 { Some(at as i32) } else { None }
+    if at <= 2_147_483_647 {
+        Some(at as i32)
+    } else {
+        None
+    }
 }
 
 // How far it is from one coordinate up to another; 0 where that comes first.
 pub(crate) fn gap(from: i32, to: i32) -> usize
     ensures { λ r. ⌜ r ≡ gapOf from to ⌝ }
 {
-    if from < to { (i64::from(to) - i64::from(from)) as usize } else { 0 }
+    if from < to {
+        (i64::from(to) - i64::from(from)) as usize
+    } else {
+        0
+    }
 }
 
 // Which of the `size` coordinates from `from` on it is, counted from 0; none where it lies elsewhere.
@@ -33,7 +41,11 @@ fn index_of(from: i32, size: u32, at: i32) -> Option<usize>
     ensures { λ r. ⌜ Cases r (along from size at ≡ false) (λ k. (along from size at ≡ true) × (k < size) × (k ≡ natAbs (at -ℤ from))) ⌝ }
 {
     let steps = i64::from(at) - i64::from(from);
-    if 0 <= steps && steps < i64::from(size) { Some(steps as usize) } else { None }
+    if 0 <= steps && steps < i64::from(size) {
+        Some(steps as usize)
+    } else {
+        None
+    }
 }
 
 // The column at a coordinate; none where the region does not reach.

@@ -24,13 +24,14 @@ loop-k-again g c =
     let fx : SFits w32 (c .args .x) = c .fits .x in
     let fy : SFits w32 (c .args .y) = c .fits .y in
     let here : c .match-right-of .into ≡ valueAt m (c .args .channel) (c .args .x +ℤ pos (c .loop-k .k)) (c .args .y) =
-        elim (c .match-right-of .came)
-        [ in-Some w ↦
-            let fa : SFits w32 (w .in-Some .at) = search needs in
-            w .into-is
-            ∙ simp toZ-ofZ at (w .sample .ensures)
-            ∙ ap (λ at. valueAt m (c .args .channel) at (c .args .y)) (simp toZ-ofZ at (w .in-Some .ensures tt))
-        | in-None w ↦ w .into-is ∙ sym (value-past m (c .args .channel) _ (c .args .y) (simp toZ-ofZ at (w .in-None .ensures tt))) ] in
+    elim (c .match-right-of .came) [
+      | in-Some w ↦
+          let fa : SFits w32 (w .in-Some .at) = search needs in
+          w .into-is
+          ∙ simp toZ-ofZ at (w .sample .ensures)
+          ∙ ap (λ at. valueAt m (c .args .channel) at (c .args .y)) (simp toZ-ofZ at (w .in-Some .ensures tt))
+      | in-None w ↦ w .into-is ∙ sym (value-past m (c .args .channel) _ (c .args .y) (simp toZ-ofZ at (w .in-None .ensures tt)))
+    ] in
     let inv = simp toZ-ofZ at (c .loop-k .inv) in
     let long : c .loop-k .k < length (c .loop-k .into) = omega arith in
     simp toZ-ofZ

@@ -32,10 +32,10 @@ returns g c =
     (c .min-start .result) (omega arith) (c .fill .ensures .len) (c .write-whole .kept .into)
     (λ k h. c .fill .ensures .clones k nan (simp length-take (omega arith)) refl ∙ sym (cond-true (ltb k lead) zero _ (lt-ltb k lead (omega arith))))
     (λ k h l.
-      c .write-whole .ensures k h
-      ∙ ap (λ l. getD (map value l) k zero) (take-rest row from)
-      ∙ ap (λ l. getD l k zero) (sym (drop-map value from row))
-      ∙ getD-drop from values k zero
-      ∙ same-past values (c .args .skip) from k (simp length-map (omega arith))
-      ∙ ap (λ i. getD values i zero) (omega arith)
-      ∙ sym (cond-false (ltb (c .min-start .result + k) lead) zero _ (le-ltb _ lead (omega arith))))
+    c .write-whole .ensures k h
+    ∙ ap (λ l. getD (map value l) k zero) (take-rest row from)
+    ∙ ap (λ l. getD l k zero) (sym (drop-map value from row))
+    ∙ getD-drop from values k zero
+    ∙ same-past values (c .args .skip) from k (simp length-map (omega arith))
+    ∙ ap (λ i. getD values i zero) (omega arith)
+    ∙ sym (cond-false (ltb (c .min-start .result + k) lead) zero _ (le-ltb _ lead (omega arith))))

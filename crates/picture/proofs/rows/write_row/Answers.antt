@@ -43,16 +43,16 @@ module _ (left x : ℤ) (k lead skip n : ℕ) (e : lead ≡ gapOf x left) (f : s
   aligned values long =
       by-ltZ (x +ℤ pos k) left (λ l. cond-true _ _ _ (lt-ltb k lead (before l .0)) ∙ sym (cond-false _ _ _ (before l .1)))
       (λ l.
-        cond-false _ _ _ (le-ltb k lead (after l .0))
-        ∙ ap (λ i. getD values i zero) (after l .1)
-        ∙ within values column n long
-        ∙ ap (λ b. cond b (getD values column zero) zero) (along-column left (x +ℤ pos k) n l))
+      cond-false _ _ _ (le-ltb k lead (after l .0))
+      ∙ ap (λ i. getD values i zero) (after l .1)
+      ∙ within values column n long
+      ∙ ap (λ b. cond b (getD values column zero) zero) (along-column left (x +ℤ pos k) n l))
 
 pub returns : need.returns
 returns g c =
     let fl : SFits w32 (c .args .left) = c .fits .left in
     let fx : SFits w32 (c .args .x) = c .fits .x in
     λ k h.
-      c .write-from .ensures k h
-      ∙ aligned (c .args .left) (c .args .x) k _ _ (length (c .args .row .now)) (simp toZ-ofZ at (c .gap .ensures)) (simp toZ-ofZ at (c .gap-2 .ensures)) _
-        (sym (length-map (c .args .row .now) _))
+    c .write-from .ensures k h
+    ∙ aligned (c .args .left) (c .args .x) k _ _ (length (c .args .row .now)) (simp toZ-ofZ at (c .gap .ensures)) (simp toZ-ofZ at (c .gap-2 .ensures)) _
+    (sym (length-map (c .args .row .now) _))

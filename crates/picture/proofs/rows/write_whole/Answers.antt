@@ -18,7 +18,7 @@ returns g c =
     two-parts (λ k. getD (map value row) k zero) (c .args .into .now) (c .convert .last .into) (c .fill .last .self) n (omega arith) (c .convert .kept .into)
     (c .fill .ensures .len)
     (λ k h.
-      ap (λ l. getD l k nan) (c .convert .ensures ∙ sym (take-map value (n - 0) row))
-      ∙ getD-take (n - 0) (map value row) k nan (omega arith)
-      ∙ getD-default (map value row) k nan zero (simp length-map (omega arith)))
+    ap (λ l. getD l k nan) (c .convert .ensures ∙ sym (take-map value (n - 0) row))
+    ∙ getD-take (n - 0) (map value row) k nan (omega arith)
+    ∙ getD-default (map value row) k nan zero (simp length-map (omega arith)))
     (λ k h l. c .fill .ensures .clones k nan h refl ∙ sym (getD-past (map value row) _ zero (simp length-map (omega arith))))

@@ -22,10 +22,10 @@ returns-in-None g c =
     let fy : SFits w32 (c .args .y) = c .fits .y in
     let s = c .args .self .now in
     λ k h.
-      c .fill .ensures .clones k nan h refl
-      ∙ sym
-        (value-off-rows (gridOf (g .T·Sample .value) (s .channels) (s .region) (s .samples .now) (s .full)) (c .args .channel) (c .args .x +ℤ pos k) (c .args .y)
-        (simp toZ-ofZ at (c .in-None .ensures tt)))
+    c .fill .ensures .clones k nan h refl
+    ∙ sym
+    (value-off-rows (gridOf (g .T·Sample .value) (s .channels) (s .region) (s .samples .now) (s .full)) (c .args .channel) (c .args .x +ℤ pos k) (c .args .y)
+    (simp toZ-ofZ at (c .in-None .ensures tt)))
 
 pub returns-in-Some : need.returns-in-Some
 returns-in-Some g c =
@@ -36,13 +36,13 @@ returns-in-Some g c =
     let row = c .in-Some .row .now in
     let value : g .T .Denot → Float = λ t. g .T·Sample .value t (s .full) in
     let shown : ℤ → ℕ → ℕ → Float =
-        λ left width k. cond (along left width (c .args .x +ℤ pos k)) (getD (map value row) (natAbs ((c .args .x +ℤ pos k) -ℤ left)) zero) zero in
+    λ left width k. cond (along left width (c .args .x +ℤ pos k)) (getD (map value row) (natAbs ((c .args .x +ℤ pos k) -ℤ left)) zero) zero in
     let in-row = simp toZ-ofZ at (c .in-Some .ensures tt) in
     let wrote = simp toZ-ofZ at (c .write-row .ensures) in
     λ k h.
-      wrote k h
-      ∙ ap (λ left. shown left (length row) k) (c .left .ensures)
-      ∙ ap (λ width. shown (s .region .left) width k) (in-row .1)
-      ∙ sym
-        (grid-row (g .T·Sample .value) (s .channels) (s .region) (s .samples .now) row (s .full) (c .args .channel) (c .args .x +ℤ pos k) (c .args .y)
-        (in-row .0) (in-row .2))
+    wrote k h
+    ∙ ap (λ left. shown left (length row) k) (c .left .ensures)
+    ∙ ap (λ width. shown (s .region .left) width k) (in-row .1)
+    ∙ sym
+    (grid-row (g .T·Sample .value) (s .channels) (s .region) (s .samples .now) row (s .full) (c .args .channel) (c .args .x +ℤ pos k) (c .args .y)
+    (in-row .0) (in-row .2))

@@ -36,6 +36,6 @@ returns-in-Some-column-of g c =
     ∙ map-read value row (c .in-Some-column-of .column) (c .index-row-column .result) zero (omega (arith, in-row .1, in-column .1)) (c .index-row-column .is)
     ∙ ap (λ k. getD (map value row) k zero) (in-column .2)
     ∙ sym
-      (grid-row (g .T·Sample .value) (s .channels) (s .region) (s .samples .now) row (s .full) (c .args .channel) (c .args .x) (c .args .y) (in-row .0)
-      (in-row .2)
-      ∙ cond-true _ _ _ (in-column .0))
+    (grid-row (g .T·Sample .value) (s .channels) (s .region) (s .samples .now) row (s .full) (c .args .channel) (c .args .x) (c .args .y) (in-row .0)
+    (in-row .2)
+    ∙ cond-true _ _ _ (in-column .0))
