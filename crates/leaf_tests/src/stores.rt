@@ -1,10 +1,10 @@
 // Both stores over leftover samples, with a rest that fills no plane.
+use interleaved::Interleaved;
+use interleaved::InterleavedStore;
+use planar::Planar;
+use planar::PlanarStore;
 use std::test::*;
-use store::Interleaved;
-use store::Planar;
 use store::Store;
-use store::interleaved::InterleavedStore;
-use store::planar::PlanarStore;
 
 // Two planes of 3 columns and 2 rows, and a rest of 1.
 const LEFTOVER: [f32; 13] = [

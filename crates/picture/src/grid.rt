@@ -8,9 +8,11 @@ ghost use lib.ListN.{length};
 ghost use Rattle.std.specs.Options.{Cases, isSome};
 ghost use Rattle.std.specs.Results.{errPart};
 ghost use Rattle.std.specs.Vec.{made};
+ghost use Rattle.picture.specs.Fields.{regionOf, channelsOf, meaningOf};
 ghost use Rattle.picture.specs.Shapes.{shapeAllowed, depthAllowed, allOf, gridRefusal, fullOf, hasRow, rowOf, rowStart, rowFrom, gridOf};
 ghost use Rattle.picture.specs.Steps.{crosses};
 use crate::Picture;
+use crate::extent::Extent;
 use crate::rows;
 use crate::shapes;
 use crate::steps;
@@ -19,13 +21,13 @@ use region::Region;
 use sample::Sample;
 use std::alloc::AllocError;
 
-// Channel by channel, row by row. `full` is the largest sample of their depth.
+// The samples lie channel by channel and row by row; `full` is the largest of their depth.
+// `new` sees to it that the numbers make a region and that the samples bear them out; with no invariant to say so, the methods look again.
 pub struct Grid<'a, T: Sample> {
     channels: usize,
-    region: Region,
+    extent: Extent,
     full: u32,
     samples: &'a [T],
-    ghost ok: { shapeAllowed channels region (length (now samples)) ≡ true },
 }
 
 impl<'a, T: Sample> Copy for Grid<'a, T> {}
@@ -49,7 +51,8 @@ impl<'a, T: Sample> Grid<'a, T> {
         depth: u32,
     ) -> Result<Grid<'a, T>, Refusal>
         ensures refusal { λ r. ⌜ errPart r ≡ gridRefusal (shapeAllowed channels region (length (now (samples .entry)))) (depthAllowed (T·Sample .deepest) depth && allOf (T·Sample .exact) (now (samples .entry))) ⌝ }
-        ensures grid { λ r. ⌜ made r (λ g. (g .channels ≡ channels) × (g .region ≡ region) × (g .full ≡ fullOf depth) × (g .samples ≡ samples .entry)) ⌝ }
+        ensures grid { λ r. ⌜ made r (λ g. (channelsOf g ≡ channels) × (regionOf g ≡ region) × (g .samples ≡ samples .entry) × (g .full ≡ fullOf depth)) ⌝ }
+        ensures means { λ r. ⌜ made r (λ g. meaningOf (T·Sample .value) g ≡ gridOf (T·Sample .value) channels region (now (samples .entry)) (fullOf depth)) ⌝ }
     {
         if !shapes::shape_allowed(channels, region, samples.len()) {
             return Err(Refusal::GridShape);
@@ -59,7 +62,7 @@ impl<'a, T: Sample> Grid<'a, T> {
         }
         Ok(Grid {
             channels,
-            region,
+            extent: Extent::of(region),
             full: shapes::full_of(depth),
             samples,
         })
@@ -67,54 +70,46 @@ impl<'a, T: Sample> Grid<'a, T> {
 
     // That very part of the caller's slice; none where the channel or the row is missing.
     pub fn get_row(&self, channel: usize, row: usize) -> Option<&'a [T]>
-        ensures found { λ r. ⌜ isSome r ≡ hasRow (now (self .entry) .channels) (now (self .entry) .region) channel row ⌝ }
-        ensures contents { λ r. ⌜ Cases r (Unit {0}) (λ s. (length (now s) ≡ now (self .entry) .region .width) × (now s ≡ rowFrom (now (self .entry) .region) channel row (now (now (self .entry) .samples)))) ⌝ }
-        ensures place { λ r. ⌜ Cases r (Unit {0}) (λ s. (ptr s .0 ≡ ptr (now (self .entry) .samples) .0) × (ptr s .1 ≡ ptr (now (self .entry) .samples) .1 + rowStart (now (self .entry) .region) channel row * mem T·row .size)) ⌝ }
+        ensures found { λ r. ⌜ isSome r ≡ hasRow (channelsOf (now (self .entry))) (regionOf (now (self .entry))) channel row ⌝ }
+        ensures contents { λ r. ⌜ Cases r (Unit {0}) (λ s. (length (now s) ≡ regionOf (now (self .entry)) .width) × (now s ≡ rowFrom (regionOf (now (self .entry))) channel row (now (now (self .entry) .samples)))) ⌝ }
+        ensures place { λ r. ⌜ Cases r (Unit {0}) (λ s. (ptr s .0 ≡ ptr (now (self .entry) .samples) .0) × (ptr s .1 ≡ ptr (now (self .entry) .samples) .1 + rowStart (regionOf (now (self .entry))) channel row * mem T·row .size)) ⌝ }
     {
-        let width = self.region.width() as usize;
-        let height = self.region.height() as usize;
-        if channel < self.channels && row < height {
-            let start = (channel * height + row) * width;
-            Some(&self.samples[start..start + width])
-        } else {
-            None
-        }
+        let region = self.extent.region();
+        let start = shapes::row_start(self.channels, region, self.samples.len(), channel, row)?;
+        Some(&self.samples[start..start + region.width() as usize])
     }
 
     // The row of a channel at a coordinate; none where the channel is missing or the region does not reach.
     fn row_at(&self, channel: usize, y: i32) -> Option<&'a [T]>
-        ensures { λ r. ⌜ Cases r (crosses (now (self .entry) .channels) (now (self .entry) .region) channel y ≡ false) (λ s. (crosses (now (self .entry) .channels) (now (self .entry) .region) channel y ≡ true) × (length (now s) ≡ now (self .entry) .region .width) × (now s ≡ rowFrom (now (self .entry) .region) channel (rowOf (now (self .entry) .region) y) (now (now (self .entry) .samples)))) ⌝ }
+        ensures { λ r. ⌜ Cases r (crosses (channelsOf (now (self .entry))) (regionOf (now (self .entry))) channel y ≡ false) (λ s. (crosses (channelsOf (now (self .entry))) (regionOf (now (self .entry))) channel y ≡ true) × (length (now s) ≡ regionOf (now (self .entry)) .width) × (now s ≡ rowFrom (regionOf (now (self .entry))) channel (rowOf (regionOf (now (self .entry))) y) (now (now (self .entry) .samples)))) ⌝ }
     {
-        let row = steps::row_of(self.region, y)?;
+        let row = steps::row_of(self.extent.region(), y)?;
         self.get_row(channel, row)
     }
 }
 
 pub impl<'a, T: Sample> Picture for Grid<'a, T> as GridPicture {
-    ghost meaning = { λ g. gridOf (T·Sample .value) (g .channels) (g .region) (now (g .samples)) (g .full) };
+    ghost meaning = { λ g. meaningOf (T·Sample .value) g };
 
     fn channels(&self) -> usize {
-        self.channels
+        shapes::channel_count(self.channels, self.extent.region(), self.samples.len())
     }
 
     fn region(&self) -> Region {
-        self.region
+        self.extent.region()
     }
 
     fn sample(&self, channel: usize, x: i32, y: i32) -> f32 {
-        let Some(row) = self.row_at(channel, y) else {
-            return 0.0;
-        };
-        match steps::column_of(self.region, x) {
-            Some(column) => row[column].to_f32(self.full),
+        match self.row_at(channel, y) {
+            Some(row) => rows::read_row(row, self.full, self.extent.region().left(), x),
             None => 0.0,
         }
     }
 
-    // One look at the row and one at the column serve the whole buffer.
+    // One look for the row and one for its place serve the whole buffer.
     fn fill(&self, channel: usize, x: i32, y: i32, into: &mut [f32]) {
         match self.row_at(channel, y) {
-            Some(row) => rows::write_row(row, self.full, self.region.left(), x, into),
+            Some(row) => rows::write_row(row, self.full, self.extent.region().left(), x, into),
             None => into.fill(0.0),
         }
     }

@@ -1,4 +1,4 @@
-// Rows of samples, written as f32.
+// Rows of samples, read as f32.
 ghost use mathlib.Core.Path.{_≡_};
 ghost use mathlib.Core.Bool.{cond};
 ghost use mathlib.Core.List.{map};
@@ -6,11 +6,21 @@ ghost use Prim.Native.Nat.{ℕ, _+_, _-_, _<_};
 ghost use lib.Dec.{ltb};
 ghost use lib.ListN.{length, getD};
 ghost use lib.Ieee.{nan};
-ghost use lib.IntN.{pos, _+ℤ_, _-ℤ_, natAbs};
+ghost use lib.IntN.{pos, _+ℤ_};
 ghost use Rattle.sample.specs.Samples.{zero};
-ghost use Rattle.region.specs.Positions.{along};
+ghost use Rattle.picture.specs.Steps.{rowAt};
 use crate::steps;
 use sample::Sample;
+
+// What a row that begins at the coordinate `left` holds at `x`; 0.0 where it does not reach.
+pub(crate) fn read_row<T: Sample>(row: &[T], full: u32, left: i32, x: i32) -> f32
+    ensures { λ r. ⌜ r ≡ rowAt (λ s. T·Sample .value s full) left (now (row .entry)) x ⌝ }
+{
+    match steps::index_of(left, row.len(), x) {
+        Some(column) => row[column].to_f32(full),
+        None => 0.0,
+    }
+}
 
 // Writes each sample of a row into a buffer that is as long.
 fn convert<T: Sample>(row: &[T], full: u32, into: &mut [f32])
@@ -41,9 +51,9 @@ fn write_from<T: Sample>(row: &[T], full: u32, lead: usize, skip: usize, into: &
     write_whole(&row[from..], full, &mut into[start..]);
 }
 
-// Writes a row that begins at the coordinate `left` into a buffer that begins at `x`, 0.0 where the row does not reach.
+// Writes what a row that begins at the coordinate `left` holds from `x` on; 0.0 where it does not reach.
 pub(crate) fn write_row<T: Sample>(row: &[T], full: u32, left: i32, x: i32, into: &mut [f32])
-    ensures { λ _. ⌜ ((k : ℕ) → k < length (now (into .entry)) → getD (now (into .exit)) k nan ≡ cond (along left (length (now (row .entry))) (x +ℤ pos k)) (getD (map (λ s. T·Sample .value s full) (now (row .entry))) (natAbs ((x +ℤ pos k) -ℤ left)) zero) zero) ⌝ }
+    ensures { λ _. ⌜ ((k : ℕ) → k < length (now (into .entry)) → getD (now (into .exit)) k nan ≡ rowAt (λ s. T·Sample .value s full) left (now (row .entry)) (x +ℤ pos k)) ⌝ }
 {
     write_from(row, full, steps::gap(x, left), steps::gap(left, x), into);
 }

@@ -1,7 +1,10 @@
-// What samples and numbers have to pass to make a grid.
+// The numbers of a grid: what they and the samples have to pass, and where its rows lie.
 ghost use mathlib.Core.Path.{_≡_};
-ghost use Prim.Native.Nat.{_≤_};
-ghost use Rattle.picture.specs.Shapes.{shapeAllowed, depthAllowed, allOf, fullOf};
+ghost use mathlib.Core.Bool.{true, false};
+ghost use Prim.Native.Nat.{_+_, _≤_};
+ghost use Rattle.std.specs.Options.{Cases};
+ghost use Rattle.picture.specs.Fields.{countOf};
+ghost use Rattle.picture.specs.Shapes.{shapeAllowed, depthAllowed, allOf, fullOf, hasRow, rowStart};
 use region::Region;
 use region::limits::LONGEST_SIDE;
 use sample::Sample;
@@ -22,6 +25,36 @@ pub(crate) fn shape_allowed(channels: usize, region: Region, samples: usize) -> 
         && width <= LONGEST_SIDE
         && height <= LONGEST_SIDE
         && samples == channels * height as usize * width as usize
+}
+
+// The channels of a grid with these numbers; none where its samples do not bear them out.
+pub(crate) fn channel_count(channels: usize, region: Region, samples: usize) -> usize
+    ensures { λ r. ⌜ r ≡ countOf channels region samples ⌝ }
+{
+    if shape_allowed(channels, region, samples) {
+        channels
+    } else {
+        0
+    }
+}
+
+// Where a row begins among the samples; none where there is no such row.
+pub(crate) fn row_start(
+    channels: usize,
+    region: Region,
+    samples: usize,
+    channel: usize,
+    row: usize,
+) -> Option<usize>
+    ensures { λ r. ⌜ Cases r (hasRow (countOf channels region samples) region channel row ≡ false) (λ start. (hasRow (countOf channels region samples) region channel row ≡ true) × (start ≡ rowStart region channel row) × (start + region .width ≤ samples)) ⌝ }
+{
+    let width = region.width() as usize;
+    let height = region.height() as usize;
+    if shape_allowed(channels, region, samples) && channel < channels && row < height {
+        Some((channel * height + row) * width)
+    } else {
+        None
+    }
 }
 
 // Whether a kind has the depth.

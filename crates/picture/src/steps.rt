@@ -1,4 +1,4 @@
-// Steps along one axis, and the columns and rows of a region.
+// Steps along one axis.
 ghost use mathlib.Core.Path.{_≡_};
 ghost use mathlib.Core.Bool.{true, false};
 ghost use Prim.Native.Nat.{_<_};
@@ -6,7 +6,7 @@ ghost use lib.IntN.{pos, _+ℤ_, _-ℤ_, natAbs};
 ghost use lib.Signed.{_<ℤ_};
 ghost use Rattle.std.specs.Options.{Cases};
 ghost use Rattle.region.specs.Positions.{along};
-ghost use Rattle.picture.specs.Shapes.{columnOf, rowOf};
+ghost use Rattle.picture.specs.Shapes.{rowOf};
 ghost use Rattle.picture.specs.Steps.{gapOf};
 use region::Region;
 
@@ -37,27 +37,20 @@ pub(crate) fn gap(from: i32, to: i32) -> usize
 }
 
 // Which of the `size` coordinates from `from` on it is, counted from 0; none where it lies elsewhere.
-fn index_of(from: i32, size: u32, at: i32) -> Option<usize>
+pub(crate) fn index_of(from: i32, size: usize, at: i32) -> Option<usize>
     ensures { λ r. ⌜ Cases r (along from size at ≡ false) (λ k. (along from size at ≡ true) × (k < size) × (k ≡ natAbs (at -ℤ from))) ⌝ }
 {
-    let steps = i64::from(at) - i64::from(from);
-    if 0 <= steps && steps < i64::from(size) {
+    let steps = gap(from, at);
+    if from <= at && steps < size {
         Some(steps as usize)
     } else {
         None
     }
 }
 
-// The column at a coordinate; none where the region does not reach.
-pub(crate) fn column_of(region: Region, x: i32) -> Option<usize>
-    ensures { λ r. ⌜ Cases r (along (region .left) (region .width) x ≡ false) (λ column. (along (region .left) (region .width) x ≡ true) × (column < region .width) × (column ≡ columnOf region x)) ⌝ }
-{
-    index_of(region.left(), region.width(), x)
-}
-
 // The row at a coordinate; none where the region does not reach.
 pub(crate) fn row_of(region: Region, y: i32) -> Option<usize>
     ensures { λ r. ⌜ Cases r (along (region .top) (region .height) y ≡ false) (λ row. (along (region .top) (region .height) y ≡ true) × (row < region .height) × (row ≡ rowOf region y)) ⌝ }
 {
-    index_of(region.top(), region.height(), y)
+    index_of(region.top(), region.height() as usize, y)
 }

@@ -1,5 +1,2 @@
 pub mod Changes
 pub mod Inside
-pub mod Numbers
-pub mod Places
-pub mod Runs

@@ -1,6 +1,6 @@
-// Stores: f32 samples in planes of columns and rows, and two makes over samples that the caller keeps.
+// Stores: f32 samples in planes of columns and rows.
 // Promise: every make reads, writes and tells its sizes as its meaning says, and each contract speaks of every place.
-// The meaning is specs/Held.antt, the numbering specs/Layout.antt, and in prose docs/STORES.md.
+// The meaning is specs/Held.antt, and in prose docs/STORES.md.
 ghost use mathlib.Core.Path.{_≡_};
 ghost use mathlib.Core.Bool.{_&&_};
 ghost use Prim.Native.Nat.{ℕ, _+_, _-_, _<_};
@@ -9,13 +9,9 @@ ghost use lib.Ieee.{nan};
 ghost use Rattle.std.specs.Options.{Cases};
 ghost use Rattle.store.specs.Held.{Held, inside, seen, inRun, runInside, Changed};
 
-pub mod interleaved;
-pub mod layout;
-pub mod planar;
+pub mod runs;
 
-pub use interleaved::Interleaved;
-use layout::row_has;
-pub use planar::Planar;
+use runs::row_has;
 
 pub trait Store {
     ghost held: { Self → Held };

@@ -2,11 +2,10 @@
 use mir.Syntax.{w32}
 use mir.Val.{SFits}
 use mathlib.Core.Path.{_≡_, sym, ap, _∙_}
-use lib.Ieee.{Float}
 use lib.IntN.{pos, _+ℤ_}
 use lib.ListN.{length}
 use native.Mathlib.Omega.{arith}
-use Prim.Native.Nat.{ℕ, _<_}
+use Prim.Native.Nat.{_<_}
 use borrow.Author.Needs.{needs}
 use Rattle.std.proofs.shelf.Signed.{toZ-ofZ}
 use Rattle.picture.specs.Meaning.{valueAt}
