@@ -62,6 +62,19 @@ fn is_premultiplied(kinds: &[Kind], alpha_channel: u8) -> bool
     alpha < kinds.len() && matches!(kinds[alpha], Kind::Premultiplied)
 }
 
+// How a record reads the alpha channel that it names.
+fn alpha_of(channel: u8, clamp: bool, kinds: &[Kind], swapped: bool) -> BlendAlpha
+    ensures { λ r. ⌜ r ≡ alphaOf channel clamp (now (kinds .entry)) swapped ⌝ }
+{
+    let premultiplied = is_premultiplied(kinds, channel);
+    BlendAlpha {
+        channel,
+        clamp,
+        swapped,
+        premultiplied,
+    }
+}
+
 impl BlendMode {
     // The formula of a frame's record at a channel.
     pub fn from_blending_info(
@@ -74,13 +87,7 @@ impl BlendMode {
     {
         let clamp = info.clamp;
         let own = is_own(channel, color_channels, info.alpha_channel);
-        let premultiplied = is_premultiplied(kinds, info.alpha_channel);
-        let alpha = BlendAlpha {
-            channel: info.alpha_channel,
-            clamp,
-            swapped: false,
-            premultiplied,
-        };
+        let alpha = alpha_of(info.alpha_channel, clamp, kinds, false);
         let has_extra = !kinds.is_empty();
         match info.mode {
             FrameBlendMode::Replace => BlendMode::Replace,
@@ -109,19 +116,8 @@ impl BlendMode {
     {
         let clamp = info.clamp;
         let own = is_own(channel, color_channels, info.alpha_channel);
-        let premultiplied = is_premultiplied(kinds, info.alpha_channel);
-        let above = BlendAlpha {
-            channel: info.alpha_channel,
-            clamp,
-            swapped: false,
-            premultiplied,
-        };
-        let below = BlendAlpha {
-            channel: info.alpha_channel,
-            clamp,
-            swapped: true,
-            premultiplied,
-        };
+        let above = alpha_of(info.alpha_channel, clamp, kinds, false);
+        let below = alpha_of(info.alpha_channel, clamp, kinds, true);
         Some(
             match info.mode {
                 PatchBlendMode::None => return None,
