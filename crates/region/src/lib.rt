@@ -5,6 +5,7 @@ ghost use mathlib.Core.Path.{_≡_};
 ghost use mathlib.Core.Bool.{true};
 ghost use Rattle.region.specs.Bounds.{isRegion};
 
+pub mod axes;
 pub mod limits;
 mod methods;
 

@@ -10,16 +10,11 @@ ghost use Rattle.refusal.specs.declared.Refusal.the-variants.{NoRegion};
 ghost use Rattle.region.specs.Bounds.{isSpan, isFilledOrEmpty, isRegion};
 ghost use Rattle.region.specs.Positions.{along, within, has, isEmpty, Holds, canMove, isAllowed};
 use crate::Region;
+use crate::axes::is_within;
+use crate::axes::past;
 use crate::limits::place_allowed;
 use crate::limits::side_allowed;
 use refusal::Refusal;
-
-// Where one axis ends, one past its last position, also where that is no i32.
-fn past(from: i32, size: u32) -> i64
-    ensures { λ r. ⌜ r ≡ from +ℤ pos size ⌝ }
-{
-    i64::from(from) + i64::from(size)
-}
 
 // Whether one axis fits: its end is at most the greatest i32.
 fn is_span(from: i32, size: u32) -> bool
@@ -90,13 +85,6 @@ fn of_axes(left: i32, top: i32, width: u32, height: u32) -> Region
         width,
         height,
     }
-}
-
-// Whether an axis lies within another.
-fn is_within(from: i32, size: u32, at: i32, n: u32) -> bool
-    ensures { λ r. ⌜ r ≡ within from size at n ⌝ }
-{
-    from <= at && past(at, n) <= past(from, size)
 }
 
 // Whether the target is empty, or both its axes lie within the region's.
