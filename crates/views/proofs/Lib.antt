@@ -1,0 +1,5 @@
+pub mod Places
+pub mod Painted
+pub mod Taken
+pub mod Followed
+pub mod Lawful
