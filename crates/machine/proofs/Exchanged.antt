@@ -233,7 +233,7 @@ works-same s slot f g onlyF onlyG countF countG apart w off m n =
 
 -- ---- the calls: two whole frames, one after the other
 
-run-append : (size : Size) (s : Setup) (xs ys : List Call) (w : Work) → run size s w (xs ++ ys) ≡ run size s (run size s w xs) ys
+pub run-append : (size : Size) (s : Setup) (xs ys : List Call) (w : Work) → run size s w (xs ++ ys) ≡ run size s (run size s w xs) ys
 run-append size s [] ys w = refl
 run-append size s (x ∷ xs) ys w = run-append size s xs ys (next size s w x)
 

@@ -24,7 +24,7 @@ first-none : (b : Bool) (r : Refusal) (later : Option Refusal) → cond b (Some 
 first-none true r later h = let z : _≡_ {A = ℕ} 0 1 = cc in absurd (omega arith)
 first-none false r later h = (refl, h)
 
-none-unbroken : (cs : List Check) → firstBroken cs ≡ None → Unbroken cs
+pub none-unbroken : (cs : List Check) → firstBroken cs ≡ None → Unbroken cs
 none-unbroken [] h = tt
 none-unbroken (c ∷ cs) h = let both = first-none (c .broken) _ _ h in (both .0, none-unbroken cs (both .1))
 

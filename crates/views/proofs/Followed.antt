@@ -23,7 +23,8 @@ use Rattle.views.specs.View.{Book, fresh, View, sizeOf, frameAt, workAt, shown
 use Rattle.views.specs.Step.{painting, paints, paintOf, bookTaken, startRefusalAt, Step}
 use Rattle.views.specs.Runs.{Ran, still, step, Run}
 use Rattle.views.proofs.Painted.{painted-none}
-use Rattle.views.proofs.Taken.{none-unbroken, Sound, sound-taken, taken-tied, work-kept}
+use Rattle.machine.proofs.Wholes.{none-unbroken}
+use Rattle.views.proofs.Taken.{Sound, sound-taken, taken-tied, work-kept}
 
 -- sizes count only by whether the setup fits
 pub record Stands (size : Size) (s : Setup) (w : Work) (v : View) : Type 0 where

@@ -40,11 +40,6 @@ shift mark a b dx dy colors kinds calls saidA saidB v w moves allowed allowed′
     let law = moved.shift _ _ _ _ dx dy (runs-alike one two) moves calls allowed allowed′ in
     (there .0 ∙ law .0 ∙ sym (here .0), λ k c x y. there .1 k c (x +ℤ dx) (y +ℤ dy) ∙ law .1 k c x y ∙ sym (here .1 k c x y))
 
--- calls after other calls
-run-append : (size : Size) (s : Setup) (xs ys : List Call) (w : Work) → run size s w (xs ++ ys) ≡ run size s (run size s w xs) ys
-run-append size s [] ys w = refl
-run-append size s (x ∷ xs) ys w = run-append size s xs ys (next size s w x)
-
 -- Stores may differ in the planes that they have to spare, and no answer depends on those: both runs are followed by the first one's size.
 pub exchange : ExchangeRuns
 exchange mark region colors kinds before f g m n slot later _ saidA₁ saidA₂ _ saidB₁ saidB₂ v₀ v₁ v₂ w₀ w₁ w₂ onlyF onlyG apart oneA twoA accepted threeA oneB twoB threeB =
@@ -60,8 +55,8 @@ exchange mark region colors kinds before f g m n slot later _ saidA₁ saidA₂ 
     let b₁ = ran-follows size s start w₀ w₁ second saidB₁ (b₀ .1) twoB in
     let b₂ = ran-follows size s (run size s start second) w₁ w₂ later saidB₂ (b₁ .1) threeB in
     let law = exchanged.exchange size s before f g m n slot later onlyF onlyG apart (subst (AllOf Accepted) (a₁ .0) accepted) in
-    let endA = run-append size s before first begun in
-    let endB = run-append size s before second begun in (
+    let endA = exchanged.run-append size s before first begun in
+    let endB = exchanged.run-append size s before second begun in (
       subst (AllOf Accepted) (sym (b₁ .0)) (law .0),
       b₂ .0 ∙ ap (λ w. answers size s w later) (sym endB) ∙ law .1 ∙ ap (λ w. answers size s w later) endA ∙ sym (a₂ .0),
       λ k c x y.

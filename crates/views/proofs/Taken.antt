@@ -27,14 +27,6 @@ use Rattle.views.proofs.Painted.{painted-other, painted-under, painted-none}
 
 -- ---- conditions that are not broken
 
-first-none : (b : Bool) (r : Refusal) (later : Option Refusal) → cond b (Some r) later ≡ None → (b ≡ false) × (later ≡ None)
-first-none true r later h = let z : _≡_ {A = ℕ} 0 1 = cc in absurd (omega arith)
-first-none false r later h = (refl, h)
-
-pub none-unbroken : (cs : List Check) → firstBroken cs ≡ None → Unbroken cs
-none-unbroken [] h = tt
-none-unbroken (c ∷ cs) h = let both = first-none (c .broken) _ _ h in (both .0, none-unbroken cs (both .1))
-
 unbroken-end : (cs ds : List Check) → Unbroken (cs ++ ds) → Unbroken ds
 unbroken-end [] ds h = h
 unbroken-end (c ∷ cs) ds h = unbroken-end cs ds (h .1)

@@ -5,12 +5,10 @@ use mathlib.Core.Path.{_≡_}
 use mathlib.Core.Bool.{true}
 use mathlib.Core.List.{List, [], _∷_, _++_, map}
 use lib.IntN.{ℤ, _+ℤ_}
-use Rattle.std.specs.declared.option.Option.{Option}
-use Rattle.std.specs.declared.option.Option.the-variants.{Some, None}
+use Rattle.std.specs.declared.option.Option.the-variants.{None}
 use Rattle.region.specs.declared.Region.{Region}
 use Rattle.region.specs.Positions.{has, Holds}
 use Rattle.machine.specs.Calls.{Call, Answer}
-use Rattle.machine.specs.Checks.{Setup}
 use Rattle.machine.specs.Machine.{begun, run, answers, show, setupOf}
 use Rattle.machine.specs.Laws.{callMoved, OriginAllowed, AllOf, Whole, callsOf, Accepted, OnlySlot, Apart}
 use Rattle.views.specs.View.{View, sizeOf, shownAt}

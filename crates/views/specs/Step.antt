@@ -1,7 +1,7 @@
 -- What a call does to a stage: its answer, its book, and every place of the store. Each call of a stage ensures one of these two relations.
-use Prim.Native.Nat.{ℕ, _+_, _-_, _*_}
+use Prim.Native.Nat.{ℕ, _-_}
 use mathlib.Core.Path.{_≡_}
-use mathlib.Core.Bool.{Bool, true, false, _&&_, cond}
+use mathlib.Core.Bool.{Bool, true, false, _&&_}
 use mathlib.Core.List.{List, map}
 use lib.Dec.{leb, ltb}
 use lib.Ieee.{Float}
@@ -14,8 +14,7 @@ use Rattle.refusal.specs.declared.Refusal.the-variants.{NotStarted, AlreadyStar
 use Rattle.sample.specs.Samples.{zero}
 use Rattle.region.specs.declared.Region.{Region}
 use Rattle.store.specs.Held.{Held, Changed}
-use Rattle.machine.specs.declared.calls.Header.{Header}
-use Rattle.machine.specs.Calls.{Canvas, Image, Patch, Stamp, Call, opening, patching, blending, abandoning, clearing, Answer, refused}
+use Rattle.machine.specs.Calls.{Canvas, Call, opening, patching, blending, abandoning, clearing, Answer, refused}
 use Rattle.machine.specs.Checks.{Setup, channelsOf, frameInfo}
 use Rattle.machine.specs.Machine.{Work, Frame, onCanvas, drawn, patchMeets, copied, patched, blended, given, refusal, unlessRefused, startRefusal, setupOf}
 use Rattle.views.specs.View.{Opened, Book, fresh, View, sizeOf, frameSlot, planeOf, workAt}
