@@ -7,7 +7,7 @@ ghost use Rattle.blend.specs.Modes.{frameNumber, patchNumber, kindNumber, fram
 use refusal::Refusal;
 
 // How a frame is blended with the canvas of its source slot.
-#[derive(Clone, Copy, PartialEq, Eq, Debug)]
+#[derive(Clone, Copy)]
 pub enum FrameBlendMode {
     Replace,
     Add,
@@ -42,7 +42,7 @@ impl FrameBlendMode {
 }
 
 // How a patch is drawn onto the open frame. Above: the patch over the frame; below: the other way round.
-#[derive(Clone, Copy, PartialEq, Eq, Debug)]
+#[derive(Clone, Copy)]
 pub enum PatchBlendMode {
     None,
     Replace,
@@ -85,7 +85,7 @@ impl PatchBlendMode {
 }
 
 // What an extra channel holds.
-#[derive(Clone, Copy, PartialEq, Eq, Debug)]
+#[derive(Clone, Copy)]
 pub enum Kind {
     NoAlpha,
     Alpha,

@@ -3,14 +3,12 @@ ghost use mathlib.Core.Path.{_≡_};
 ghost use Rattle.blend.specs.Modes.{premultipliedAt};
 ghost use Rattle.blend.specs.Tables.{frameMode, patchMode, alphaOf, alphaRead, isOwn, formula};
 use crate::modes::FrameBlendMode;
-use crate::modes::FrameBlendModeDebug;
 use crate::modes::Kind;
 use crate::modes::PatchBlendMode;
-use crate::modes::PatchBlendModeDebug;
 use formulas::Operands;
 
 // A frame's record: how its channels meet the canvas of the source slot.
-#[derive(Clone, Copy, Debug)]
+#[derive(Clone, Copy)]
 pub struct BlendingInfo {
     pub mode: FrameBlendMode,
     pub alpha_channel: u8,
@@ -19,7 +17,7 @@ pub struct BlendingInfo {
 }
 
 // A patch's record: how its channels meet the open frame.
-#[derive(Clone, Copy, Debug)]
+#[derive(Clone, Copy)]
 pub struct PatchBlendingInfo {
     pub mode: PatchBlendMode,
     pub alpha_channel: u8,
@@ -27,7 +25,7 @@ pub struct PatchBlendingInfo {
 }
 
 // The alpha that a formula reads: the extra channel's number, and how.
-#[derive(Clone, Copy, Debug)]
+#[derive(Clone, Copy)]
 pub struct BlendAlpha {
     pub channel: u8,
     pub clamp: bool,
@@ -36,7 +34,7 @@ pub struct BlendAlpha {
 }
 
 // A formula with all that it needs besides its four floats.
-#[derive(Clone, Copy, Debug)]
+#[derive(Clone, Copy)]
 pub enum BlendMode {
     Replace,
     Add,

@@ -5,7 +5,7 @@ ghost use mathlib.Core.Path.{_≡_};
 ghost use Rattle.formulas.specs.Formulas.{clamped, exchanged, clampNew, clampNewAlpha, replaceOf, addOf, mulOf, skipOf, mixAlphaOf, mulAddOf, blendOf};
 
 // What a formula reads: the old sample and the new one, and the alpha of each.
-#[derive(Clone, Copy, Debug)]
+#[derive(Clone, Copy)]
 pub struct Operands {
     pub base: f32,
     pub new: f32,

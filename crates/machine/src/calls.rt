@@ -1,7 +1,7 @@
 // The arguments of the calls, as plain numbers, and what a slot shows.
 
 // A frame: its number, its place on the canvas, its sides and the slot that it fills.
-#[derive(Clone, Copy, Debug)]
+#[derive(Clone, Copy)]
 pub struct Header {
     pub number: u32,
     pub left: i32,
@@ -12,7 +12,7 @@ pub struct Header {
 }
 
 // How a frame's channels meet the canvas of a source slot.
-#[derive(Clone, Copy, Debug)]
+#[derive(Clone, Copy)]
 pub struct FrameRecord {
     pub mode: u8,
     pub alpha: u8,
@@ -21,7 +21,7 @@ pub struct FrameRecord {
 }
 
 // How a patch's channels meet the open frame.
-#[derive(Clone, Copy, Debug)]
+#[derive(Clone, Copy)]
 pub struct PatchRecord {
     pub mode: u8,
     pub alpha: u8,
@@ -29,7 +29,7 @@ pub struct PatchRecord {
 }
 
 // A part of a sheet: the rectangle, and where in the frame its left top corner is put.
-#[derive(Clone, Copy, Debug)]
+#[derive(Clone, Copy)]
 pub struct Rectangle {
     pub left: i32,
     pub top: i32,
@@ -38,7 +38,7 @@ pub struct Rectangle {
 }
 
 // What a slot shows at a channel and a position.
-#[derive(Clone, Copy, Debug)]
+#[derive(Clone, Copy)]
 pub enum Shown {
     Outside,
     Empty,
