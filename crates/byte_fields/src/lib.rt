@@ -1,6 +1,8 @@
 // Numbers and parts of bytes, read at any place.
 // Promise: each function answers its definition for every place, also past the end, where every byte reads as 0.
 // The definition is specs/Words.antt.
+#![tactic(auto)]
+
 ghost use Rattle.std.specs.Prelude.{◌≡◌, ◌+◌, [], ◌∷◌, take, drop};
 ghost use Rattle.byte_fields.specs.Words.{byte_at, word_at, signed_at, float_at};
 

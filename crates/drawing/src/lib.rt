@@ -2,6 +2,8 @@
 // Promise: every place of the rectangle, in each plane that the drawing touches, becomes what the drawing makes of the samples that stood in its
 // column and row before the walk, all channels read before any is written; every other place stays.
 // What a drawing makes is specs/Layers.antt, rectangles are specs/Rectangles.antt.
+#![tactic(auto)]
+
 ghost use Rattle.std.specs.Prelude.{◌≡◌, ◌≤◌, min, not, ◌&&◌, length};
 ghost use Rattle.store.specs.Held.{Changed};
 ghost use Rattle.drawing.specs.Layers.{touches, drawn_at};

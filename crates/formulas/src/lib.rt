@@ -1,6 +1,8 @@
 // The formulas of blending: seven kernels in f32 over one set of four floats, with clamping and the exchange of old and new.
 // Promise: each equals its written expression bit by bit, every operation rounded once in its order.
 // The definition is specs/Formulas.antt, and in prose docs/FORMULAS.md.
+#![tactic(auto)]
+
 ghost use Rattle.std.specs.Prelude.{◌≡◌};
 ghost use Rattle.formulas.specs.Formulas.{clamped, exchanged, clamp_new, clamp_new_alpha, replace_of, add_of, mul_of, skip_of, mix_alpha_of, mul_add_of, blend_of};
 

@@ -1,4 +1,6 @@
 // A store in which row follows row, and each column has its samples of all planes together.
+#![tactic(auto)]
+
 ghost use Rattle.std.specs.Prelude.{◌≡◌, length};
 ghost use Rattle.store.specs.Held.{inside};
 ghost use Rattle.layout.specs.Layout.{interleaved, interleaved_number, Found};

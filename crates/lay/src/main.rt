@@ -1,4 +1,6 @@
 // Reads plates from standard input, lays them onto one canvas and prints it, or why it refused.
+#![tactic(auto)]
+
 use laying::{LONGEST_INPUT, printout};
 use std::io;
 use std::io::{Read, Write};

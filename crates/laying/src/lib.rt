@@ -1,6 +1,8 @@
 // The library of `lay`: from the bytes of its input to the text that it prints.
 // Promise: the text is the definition's. For now it decides what the input's length alone decides, and reads no plate.
 // The definition is specs/Printout.antt, and in prose docs/LAY.md.
+#![tactic(auto)]
+
 ghost use Rattle.std.specs.Prelude.{◌≡◌, length, IfOk, string_bytes};
 ghost use Rattle.laying.specs.Printout.{refused_by, line_of, refused_line, printed};
 

@@ -1,6 +1,8 @@
 // How stores number the places of a slice of samples.
 // Promise: whole planes are counted as the definition says, and a number of three digits is found exactly where each digit is in its range.
 // The definition is specs/Layout.antt, and in prose docs/STORES.md.
+#![tactic(auto)]
+
 ghost use Rattle.std.specs.Prelude.{◌≡◌, ◌^◌, ◌≤◌, true, MatchOption};
 ghost use Rattle.layout.specs.Layout.{planes_of, in_range, number_of};
 

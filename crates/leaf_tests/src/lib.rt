@@ -1,4 +1,6 @@
 // Tests of the leaves on examples and at their limits: regions, kernels, pictures, stores, and the texts of lay.
+#![tactic(auto)]
+
 #[cfg(test)]
 mod kernels;
 #[cfg(test)]

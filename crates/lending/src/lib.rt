@@ -1,5 +1,7 @@
 // An example of lending: a caller hands a slice of its own to a store, generic code writes to it, and the caller knows its slice again.
 // Promise: after the write the caller's own array holds the value, proved from the store's meaning alone.
+#![tactic(auto)]
+
 ghost use Rattle.std.specs.Prelude.{◌≡◌};
 ghost use Rattle.sample.specs.Samples.{one};
 ghost use Rattle.store.specs.Held.{in_run, Changed};

@@ -1,6 +1,8 @@
 // Pictures: what a stage is handed to draw. Any type may be one that answers its channels, its region and its samples.
 // Promise: each make's answers are its meaning, and reading a sample changes nothing.
 // The meaning is specs/Meaning.antt, that of grids specs/Shapes.antt and of their fields specs/Fields.antt, and in prose docs/PICTURES.md.
+#![tactic(auto)]
+
 ghost use Rattle.std.specs.Prelude.{◌≡◌, ℕ, ◌<◌, length, pos, ◌+ℤ◌, slice_index_or};
 ghost use Rattle.std.specs.Float.{nan};
 ghost use Rattle.picture.specs.Meaning.{Meaning, value_at};

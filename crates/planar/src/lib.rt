@@ -1,4 +1,6 @@
 // A store in which plane follows plane, and in each row follows row.
+#![tactic(auto)]
+
 ghost use Rattle.std.specs.Prelude.{◌≡◌, ℕ, ◌+◌, ◌<◌, length, is_some, IfSome, slice_index_or};
 ghost use Rattle.std.specs.Float.{nan};
 ghost use Rattle.store.specs.Held.{inside, seen, run_inside_lem};

@@ -1,6 +1,8 @@
 // Plates: frames as bytes, read where they lie, and drawn as pictures.
 // Promise: a plate is refused exactly as its definition says, and its numbers, records and samples are those of its bytes.
 // The definition is specs/Format.antt, and in prose docs/PLATES.md.
+#![tactic(auto)]
+
 ghost use Rattle.std.specs.Prelude.{◌≡◌, ◌≤◌, take};
 ghost use Rattle.plate.specs.Format.{colors_of, extras_of, header_of, kinds_of, records_of, plate_meaning};
 ghost use Rattle.plate.specs.Fields.{bytes_of, meaning_of};

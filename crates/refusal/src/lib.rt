@@ -1,5 +1,7 @@
 // Why a call says no: every refusal of the project, by name, with the number that its users know, and the layer that refused.
 // Promise: `number` gives the number of the table, one for each name. The table is specs/Table.antt, and in prose docs/REFUSALS.md.
+#![tactic(auto)]
+
 ghost use Rattle.std.specs.Prelude.{◌≡◌};
 ghost use Rattle.refusal.specs.Table.{number_of, refusal_of, layer_of};
 

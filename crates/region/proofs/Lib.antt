@@ -1,2 +1,2 @@
 pub mod Regions
-pub mod Parts
+pub mod Cuts

@@ -1,6 +1,8 @@
 // Rectangles of positions on the plane, and the limits of those that a stage works on.
 // Promise: each method answers by positions as its definition says, and refuses exactly the numbers that make no region.
 // The definitions are specs/Bounds.antt and specs/Positions.antt, and in prose docs/REGIONS.md.
+#![tactic(auto)]
+
 ghost use Rattle.std.specs.Prelude.{◌≡◌, true};
 ghost use Rattle.region.specs.Bounds.{is_region};
 

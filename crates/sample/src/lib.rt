@@ -1,6 +1,8 @@
 // The kinds of samples that callers hold, f32, i32 and i16, and the f32 that each stands for.
 // Promise: an f32 means itself; an integer means its part of the largest sample of its depth, divided once in f32.
 // The definition is specs/Samples.antt, and in prose docs/PICTURES.md.
+#![tactic(auto)]
+
 ghost use Rattle.std.specs.Prelude.{◌≡◌, ℕ, Bool, true, Float};
 ghost use Rattle.sample.specs.Samples.{part_of, countable};
 

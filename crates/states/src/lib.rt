@@ -1,6 +1,8 @@
 // What a stage's own state decides of a call: whether a frame is open, its ticket, the last blended number, and the sizes of the store.
 // Promise: each function answers exactly the definition's refusal, and none where no condition is broken.
 // The definition is specs/Checks.antt of crate `machine`, and in prose docs/STAGE.md and docs/REFUSALS.md.
+#![tactic(auto)]
+
 ghost use Rattle.std.specs.Prelude.{◌≡◌, ℕ, ◌&&◌, List, ◌++◌, nat_eq, nat_le};
 ghost use Rattle.region.specs.declared.Region.{Region};
 ghost use Rattle.blend.specs.declared.modes.Kind.{Kind};

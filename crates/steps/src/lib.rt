@@ -1,6 +1,8 @@
 // Steps along an axis: which column or row of a region a coordinate is.
 // Promise: each function answers for every i64 what its definition says.
 // The words are specs/Gaps.antt, and specs/Positions.antt of crate `region`.
+#![tactic(auto)]
+
 ghost use Rattle.std.specs.Prelude.{◌≡◌, ◌<◌, true, false, ◌-ℤ◌, MatchOption, unsigned_abs};
 ghost use Rattle.region.specs.Positions.{along};
 ghost use Rattle.picture.specs.Shapes.{column_of, row_of};

@@ -1,6 +1,8 @@
 // Stores: f32 samples in planes of columns and rows.
 // Promise: every make reads, writes and tells its sizes as its meaning says, and each contract speaks of every place.
 // The meaning is specs/Held.antt, and in prose docs/STORES.md.
+#![tactic(auto)]
+
 ghost use Rattle.std.specs.Prelude.{◌≡◌, ℕ, ◌+◌, ◌-◌, ◌<◌, ◌&&◌, length, get_or, IfSome, slice_index_or};
 ghost use Rattle.std.specs.Float.{nan};
 ghost use Rattle.store.specs.Held.{Held, inside, seen, in_run, run_inside_lem, Changed};

@@ -1,6 +1,8 @@
 // The one walk over a rectangle of a store, for all drawing: row by row, in runs of a row.
 // Promise: what a painter does to a run is done to the whole rectangle, each place from the samples that stood there before the walk.
 // The words are specs/Rectangles.antt.
+#![tactic(auto)]
+
 ghost use Rattle.std.specs.Prelude.{◌≡◌, ℕ, ◌+◌, Bool, ◌&&◌, Float};
 ghost use Rattle.picture.specs.Meaning.{Meaning};
 ghost use Rattle.store.specs.Held.{Held, Changed};

@@ -2,7 +2,7 @@
 use Rattle.std.proofs.Common.{◌≡◌, pos, ◌-ℤ◌, ◌∙◌, arith, w32, w64, SFits, rules}
 use Rattle.std.specs.Int.{int_max}
 use Rattle.std.proofs.lemmas.Int.{ints, to_z-of_z}
-use Rattle.region.proofs.Parts.{far_abs, far_fits}
+use Rattle.region.proofs.Cuts.{far_abs, far_fits}
 use Rattle.region.proofs.parts.distance.Goals as goal
 
 pub overflow-sub-from : goal.overflow-sub-from

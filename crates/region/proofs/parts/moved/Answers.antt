@@ -1,7 +1,7 @@
 -- The sums fit i64.
 use Rattle.std.proofs.Common.{arith}
 use Rattle.std.proofs.lemmas.Int.{ints}
-use Rattle.region.proofs.Parts.{moved_along}
+use Rattle.region.proofs.Cuts.{moved_along}
 use Rattle.region.proofs.parts.moved.Goals as goal
 
 pub overflow-add-result : goal.overflow-add-result

@@ -1,7 +1,7 @@
 -- What lies on an axis that fits, or at its end, is an i32.
 use Rattle.std.proofs.Common.{pos, ◌+ℤ◌, ◌≤ℤ◌, arith, w32, w64, SFits, rules}
 use Rattle.std.proofs.lemmas.Int.{ints, to_z-of_z}
-use Rattle.region.proofs.Parts.{on_span}
+use Rattle.region.proofs.Cuts.{on_span}
 use Rattle.region.proofs.parts.nearest.Goals as goal
 
 pub clamp-requires : goal.clamp-requires

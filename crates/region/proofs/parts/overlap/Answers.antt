@@ -1,7 +1,7 @@
 -- The casts change nothing, since every number here fits its type.
 use Rattle.std.proofs.Common.{w32, w64, SFits, rules}
 use Rattle.std.proofs.lemmas.Int.{to_z-of_z}
-use Rattle.region.proofs.Parts.{overlap_along, overlap_span}
+use Rattle.region.proofs.Cuts.{overlap_along, overlap_span}
 use Rattle.region.proofs.parts.overlap.Goals as goal
 
 pub returns : goal.returns

@@ -2,7 +2,7 @@
 use Rattle.std.proofs.Common.{◌∙◌, w32, w64, SFits, rules}
 use Rattle.std.proofs.lemmas.Int.{to_z-of_z}
 use Rattle.region.proofs.Regions.{spans}
-use Rattle.region.proofs.Parts.{part_has}
+use Rattle.region.proofs.Cuts.{part_has}
 use Rattle.region.proofs.parts.part_between.Goals as goal
 
 pub overlap-first-requires : goal.overlap-first-requires

@@ -2,7 +2,7 @@
 use Rattle.std.proofs.Common.{◌≡◌, pos, ◌+ℤ◌, ◌-ℤ◌, w32, SFits, rules}
 use Rattle.std.specs.Int.{int_max}
 use Rattle.std.proofs.lemmas.Int.{to_z-of_z}
-use Rattle.region.proofs.Parts.{places_along, places_order}
+use Rattle.region.proofs.Cuts.{places_along, places_order}
 use Rattle.region.proofs.parts.places.Goals as goal
 
 pub returns : goal.returns
