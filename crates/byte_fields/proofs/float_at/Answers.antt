@@ -6,4 +6,4 @@ use Rattle.byte_fields.proofs.float_at.Goals as goal
 
 pub returns : goal.returns
 unfolding float_at
-returns c = c.f32-from-bits-with-nan.ensures ∙ ap (of_bits binary32) c.word-at.ensures
+returns c = c.f32_from_bits_with_nan.ensures ∙ ap (of_bits binary32) c.word_at.ensures

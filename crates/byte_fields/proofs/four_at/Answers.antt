@@ -10,8 +10,8 @@ from_part bytes part place k b e f = f ∙ ap (λ l. byte_at l k) e ∙ get_or-d
 pub returns : goal.returns
 returns c =
     let at = from_part c.args.bytes.now c.rest-four.result.now c.args.place in
-    let b0 = simp add-zero at (at 0 _ c.rest-four.ensures c.byte-at.ensures) in
-    let b1 = at 1 _ c.rest-four.ensures c.byte-at-2.ensures in
-    let b2 = at 2 _ c.rest-four.ensures c.byte-at-3.ensures in
-    let b3 = at 3 _ c.rest-four.ensures c.byte-at-4.ensures in
+    let b0 = simp add-zero at (at 0 _ c.rest-four.ensures c.byte_at.ensures) in
+    let b1 = at 1 _ c.rest-four.ensures c.byte_at-2.ensures in
+    let b2 = at 2 _ c.rest-four.ensures c.byte_at-3.ensures in
+    let b3 = at 3 _ c.rest-four.ensures c.byte_at-4.ensures in
     cc

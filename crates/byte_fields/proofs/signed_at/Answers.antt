@@ -7,5 +7,5 @@ use Rattle.byte_fields.proofs.signed_at.Goals as goal
 pub returns : goal.returns
 unfolding signed_at
 returns c =
-    let fits : SFits w32 c.cast-signed.result = search rules in
-    to_z-of_z w32 c.cast-signed.result fits ∙ c.cast-signed.ensures ∙ ap (to_z w32) c.word-at.ensures
+    let fits : SFits w32 c.cast_signed.result = search rules in
+    to_z-of_z w32 c.cast_signed.result fits ∙ c.cast_signed.ensures ∙ ap (to_z w32) c.word_at.ensures

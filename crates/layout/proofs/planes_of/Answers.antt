@@ -3,5 +3,5 @@ use Rattle.std.proofs.Common.{arith}
 use Rattle.std.proofs.lemmas.Nat.{mul-lt}
 use Rattle.layout.proofs.planes_of.Goals as goal
 
-pub nonzero-div-result : goal.nonzero-div-result
-nonzero-div-result c = mul-lt 0 0 c.args.columns c.args.rows (omega arith) (omega arith)
+pub nonzero_div-result : goal.nonzero_div-result
+nonzero_div-result c = mul-lt 0 0 c.args.columns c.args.rows (omega arith) (omega arith)

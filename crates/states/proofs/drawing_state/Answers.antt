@@ -5,9 +5,9 @@ use Rattle.machine.specs.Checks.{◌unless◌, ticket_checks}
 use Rattle.machine.proofs.Firsts.{first_some}
 use Rattle.states.proofs.drawing_state.Goals as goal
 
-pub returns-then-is-some : goal.returns-then-is-some
-returns-then-is-some c =
+pub returns-then-is_some : goal.returns-then-is_some
+returns-then-is_some c =
     λ region colors kinds.
-    let ticket = c.ticket-state-ticket.ensures region colors kinds in
-    ticket ∙ first_some (ticket_checks (record { mark = c.args.mark; region = region; colors = colors; kinds = kinds }) c.args.current (record { mark = c.args.ticket-mark; number = c.args.ticket-number }))
-    ((why.OutsideStore unless c.args.fits) ∷ []) (sym (ap is_some ticket) ∙ sym c.is-some.ensures ∙ c.if-is-some.true)
+    let ticket = c.ticket_state-ticket.ensures region colors kinds in
+    ticket ∙ first_some (ticket_checks (record { mark = c.args.mark; region = region; colors = colors; kinds = kinds }) c.args.current (record { mark = c.args.ticket_mark; number = c.args.ticket_number }))
+    ((why.OutsideStore unless c.args.fits) ∷ []) (sym (ap is_some ticket) ∙ sym c.is_some.ensures ∙ c.if-is_some.true)

@@ -8,5 +8,5 @@ use Rattle.blend.proofs.records.is_premultiplied.Goals as goal
 
 pub returns-else-alpha-kinds : goal.returns-else-alpha-kinds
 returns-else-alpha-kinds c =
-    let past : length c.args.kinds.now ≤ c.args.alpha-channel = omega arith in
-    le-ltb _ _ past ∙ sym (ap is_premultiplied (get_or_past c.args.kinds.now c.args.alpha-channel NoAlpha past))
+    let past : length c.args.kinds.now ≤ c.args.alpha_channel = omega arith in
+    le-ltb _ _ past ∙ sym (ap is_premultiplied (get_or_past c.args.kinds.now c.args.alpha_channel NoAlpha past))

@@ -6,4 +6,4 @@ use Rattle.blend.proofs.rows.draw.Given as goal
 
 abbrev pub invariant-loop-column : goal.invariant-loop-column
 invariant-loop-column g l =
-    (k : ℕ) → get_or l.base k nan ≡ row_at (g.K.Kernel.made l.kernel) l.column l.initial.base l.new l.base-alpha l.new-alpha k
+    (k : ℕ) → get_or l.base k nan ≡ row_at (g.K.Kernel.made l.kernel) l.column l.initial.base l.new l.base_alpha l.new_alpha k

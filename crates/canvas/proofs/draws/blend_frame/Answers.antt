@@ -18,15 +18,15 @@ returns g c =
     let hd = o.header in
     let none = c.new-none.result in
     let m = blank none.channels none.region in
-    let a = c.area-of-left.result in
-    frame-blended s o c.args.filled.now m c.drawing-of-drawn.result c.drawing-of-kept.result (g.S.Store.held c.args.store.now) (in_area a.0 a.1 a.2 a.3)
+    let a = c.area_of-left.result in
+    frame-blended s o c.args.filled.now m c.drawing_of-drawn.result c.drawing_of-kept.result (g.S.Store.held c.args.store.now) (in_area a.0 a.1 a.2 a.3)
     (g.S.Store.held c.around.new.store)
-    (planned_as c.drawing-of-drawn.ensures c.slot-layer-new.ensures)
-    c.drawing-of-kept.ensures
+    (planned_as c.drawing_of-drawn.ensures c.slot_layer-new.ensures)
+    c.drawing_of-kept.ensures
     (λ column row.
-    c.area-of-left.ensures column row
-    ∙ c.drawn-part-part.ensures (across s column) (down s row)
-    ∙ ap (λ b. has s.region (across s column) (down s row) && b) (c.covered-part-covered.ensures (across s column -ℤ hd.left) (down s row -ℤ hd.top)))
+    c.area_of-left.ensures column row
+    ∙ c.drawn_part-part.ensures (across s column) (down s row)
+    ∙ ap (λ b. has s.region (across s column) (down s row) && b) (c.covered_part-covered.ensures (across s column -ℤ hd.left) (down s row -ℤ hd.top)))
     (g.S.Store.held c.area.new.store)
     c.area.ensures
     (simp (c.width.ensures, c.height.ensures) at c.around.ensures)

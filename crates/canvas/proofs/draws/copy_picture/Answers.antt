@@ -15,13 +15,13 @@ returns g c =
     let s = setup_from c.args.terms.now in
     let hd = c.args.header in
     let m = g.P.Picture.meaning c.args.picture.now in
-    let a = c.area-of-left.result in
+    let a = c.area_of-left.result in
     picture_copied s hd m (in_area a.0 a.1 a.2 a.3)
-    (planned_as c.drawing-of-drawing.ensures c.sheet-layer-new.ensures)
+    (planned_as c.drawing_of-drawing.ensures c.sheet_layer-new.ensures)
     (λ column row.
-    c.area-of-left.ensures column row
-    ∙ c.drawn-part-part.ensures (across s column) (down s row)
+    c.area_of-left.ensures column row
+    ∙ c.drawn_part-part.ensures (across s column) (down s row)
     ∙ ap (λ b. has s.region (across s column) (down s row) && b)
-    (c.covered-part-covered.ensures (across s column -ℤ hd.left) (down s row -ℤ hd.top)
+    (c.covered_part-covered.ensures (across s column -ℤ hd.left) (down s row -ℤ hd.top)
     ∙ ap (λ (r : Region). covered hd r (across s column -ℤ hd.left) (down s row -ℤ hd.top)) c.region.ensures))
     c.area.ensures

@@ -10,8 +10,8 @@ turned false false = refl
 
 pub returns : goal.returns
 returns c =
-    let columns = c.columns-of-left.result in
-    let rows = c.rows-of-top.result in
+    let columns = c.columns_of-left.result in
+    let rows = c.rows_of-top.result in
     λ column row.
     turned (leb rows.0 row && ltb row rows.1) (leb columns.0 column && ltb column columns.1)
-    ∙ (λ i. c.columns-of-left.ensures.positions column i && c.rows-of-top.ensures.positions row i)
+    ∙ (λ i. c.columns_of-left.ensures.positions column i && c.rows_of-top.ensures.positions row i)

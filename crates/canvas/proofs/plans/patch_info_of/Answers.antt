@@ -5,4 +5,4 @@ use Rattle.canvas.proofs.Records.{map_at}
 use Rattle.canvas.proofs.plans.patch_info_of.Goals as goal
 
 pub returns : goal.returns
-returns c = c.patch-info.ensures ∙ ap patch_info c.record-of.ensures ∙ map_at patch_info c.args.records.now _ _
+returns c = c.patch_info.ensures ∙ ap patch_info c.record_of.ensures ∙ map_at patch_info c.args.records.now _ _

@@ -8,18 +8,18 @@ any_left : {X : Type 0} (test : X → Bool) (xs : List X) (i : ℕ) (x : X) (b :
 any_left test xs i x b h e f =
     at_drop_more (any_of test) xs i x h ∙ ap (λ y. test y || any_of test (drop (i + 1) xs)) (sym e) ∙ ap (λ t. t || any_of test (drop (i + 1) xs)) (sym f)
 
-pub returns-then-is-broken-by : goal.returns-then-is-broken-by
-returns-then-is-broken-by g c =
+pub returns-then-is_broken_by : goal.returns-then-is_broken_by
+returns-then-is_broken_by g c =
     sym
     (any_left (g.B.Broken.breaks c.args.condition.now) c.args.items.now c.loop-item.item-index c.item-item.result _ (omega arith) c.item-item.is
-    c.if-is-broken-by.ensures)
+    c.if-is_broken_by.ensures)
     ∙ c.loop-item.invariant
 
 pub loop-item-preserved : goal.loop-item-preserved
 loop-item-preserved g c =
     sym
     (any_left (g.B.Broken.breaks c.args.condition.now) c.args.items.now c.loop-item.item-index c.item-item.result _ (omega arith) c.item-item.is
-    c.if-is-broken-by.ensures)
+    c.if-is_broken_by.ensures)
     ∙ c.loop-item.invariant
 
 pub returns : goal.returns

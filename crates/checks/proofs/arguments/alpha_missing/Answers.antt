@@ -7,4 +7,4 @@ use Rattle.checks.proofs.arguments.alpha_missing.Goals as goal
 pub returns : goal.returns
 returns c =
     c.any.ensures
-    ∙ ap (λ b. any_of (λ r. frame_reads_alpha b (frame_mode_of r.mode) && leb (length c.args.kinds.now) r.alpha) c.args.records.now) c.has-extra-has-extra.ensures
+    ∙ ap (λ b. any_of (λ r. frame_reads_alpha b (frame_mode_of r.mode) && leb (length c.args.kinds.now) r.alpha) c.args.records.now) c.has_extra-has_extra.ensures

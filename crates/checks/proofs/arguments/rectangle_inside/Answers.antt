@@ -7,5 +7,5 @@ pub returns-else-across : goal.returns-else-across
 returns-else-across c =
     let f1 : SFits w32 c.args.rectangle.left = search rules in
     let f2 : SFits w32 c.left.result = search rules in
-    let across = simp to_z-of_z at c.is-within-across.ensures in
+    let across = simp to_z-of_z at c.is_within-across.ensures in
     grind arith

@@ -17,20 +17,20 @@ past x c k h = grind (arith, ints)
 off : (y : ℤ) (r : ℕ) → greatest_coordinate <ℤ (y +ℤ pos r) → is_coordinate (y +ℤ pos r) ≡ false
 off y r h = grind (arith, ints)
 
-pub returns-in-default : goal.returns-in-default
-returns-in-default g c =
+pub returns-in_default : goal.returns-in_default
+returns-in_default g c =
     let fx : SFits w64 c.args.x = c.ranges.x in
-    let far = simp to_z-of_z at c.in-default.ensures in
+    let far = simp to_z-of_z at c.in_default.ensures in
     λ k h.
     c.fill.ensures.clones k nan h refl
     ∙ sym (value_off_columns (g.P.Picture.meaning c.args.picture.now) c.args.channel _ _ (past c.args.x c.args.column k far))
 
-pub returns-in-default-steps-on : goal.returns-in-default-steps-on
-returns-in-default-steps-on g c =
+pub returns-in_default-steps_on : goal.returns-in_default-steps_on
+returns-in_default-steps_on g c =
     let fy : SFits w64 c.args.y = c.ranges.y in
-    let far = simp to_z-of_z at c.in-default-steps-on.ensures in
+    let far = simp to_z-of_z at c.in_default-steps_on.ensures in
     λ k h.
-    c.fill-in-default-steps-on.ensures.clones k nan h refl
+    c.fill-in_default-steps_on.ensures.clones k nan h refl
     ∙ sym (value_off_lines (g.P.Picture.meaning c.args.picture.now) c.args.channel _ _ (off c.args.y c.args.row far))
 
 pub returns : goal.returns
@@ -39,9 +39,9 @@ returns g c =
     let fx : SFits w64 c.args.x = c.ranges.x in
     let fy : SFits w64 c.args.y = c.ranges.y in
     let gx : SFits w64 c.in-Some.x = search rules in
-    let gy : SFits w64 c.in-Some-steps-on.y = search rules in
+    let gy : SFits w64 c.in-Some-steps_on.y = search rules in
     let across = simp to_z-of_z at c.in-Some.ensures in
-    let down = simp to_z-of_z at c.in-Some-steps-on.ensures in
+    let down = simp to_z-of_z at c.in-Some-steps_on.ensures in
     λ k h.
     simp to_z-of_z at (c.fill-2.ensures k h)
     ∙ ap (λ y. value_at m c.args.channel (c.in-Some.x +ℤ pos k) y) down

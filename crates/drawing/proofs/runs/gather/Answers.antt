@@ -15,7 +15,7 @@ loop-channel-preserved g c =
     let n = c.loop-channel.channel in
     let made = c.loop-channel.made in
     let f : ℕ → ℕ → Float = λ ch k. stroke_or (stroke_of d ch) d.new d.colors (g.P.Picture.meaning c.args.picture.now) (g.S.Store.held c.args.store.now) ch (c.args.column + k) c.args.row in
-    elim c.match-stroke-of.branch [
+    elim c.match-stroke_of.branch [
       | in-Some w ↦
           λ ch k c< k< some.
           ap (λ room. room_at room ch k) w.made-is

@@ -5,7 +5,7 @@ use Rattle.drawing.specs.Layers.{stroke_of}
 use Rattle.drawing.proofs.runs.has_strokes.Goals as goal
 
 pub loop-channel-preserved : goal.loop-channel-preserved
-loop-channel-preserved c = below_more _ _ c.loop-channel.invariant (sym (ap is_some c.stroke-of.ensures) ∙ sym c.is-some.ensures ∙ c.if-is-some.false)
+loop-channel-preserved c = below_more _ _ c.loop-channel.invariant (sym (ap is_some c.stroke_of.ensures) ∙ sym c.is_some.ensures ∙ c.if-is_some.false)
 
 pub returns : goal.returns
 returns c =

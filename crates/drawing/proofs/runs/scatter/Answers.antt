@@ -16,11 +16,11 @@ loop-channel-preserved g c =
     let column = c.args.column in
     let count = c.args.count in
     let part = take ((n * 128 + count) - n * 128) (drop (n * 128) room) in
-    elim c.if-is-some.branch [
+    elim c.if-is_some.branch [
       | then-is-some w ↦
-          let h = saved_more {e = g.S.Store.held w.save.new.self} d n column c.args.row count room part w.save.result (sym (ap is_some c.stroke-of.ensures) ∙ sym w.if-is-some.ensures) (omega arith) (simp (length-take, length-drop) (omega arith))
+          let h = saved_more {e = g.S.Store.held w.save.new.self} d n column c.args.row count room part w.save.result (sym (ap is_some c.stroke_of.ensures) ∙ sym w.if-is_some.ensures) (omega arith) (simp (length-take, length-drop) (omega arith))
           (λ k k<. room_part room n count _ k (omega arith)) c.loop-channel.invariant w.save.ensures.said w.save.ensures.places in simp w.store-is h
       | else-is-some w ↦
           let h = changed_like c.loop-channel.invariant (λ p c' r. touches_below (n + 1) d p && in_line column (column + count) c.args.row c' r) (saved d column room)
-          (λ p c' r _. ap (λ t. t && in_line column (column + count) c.args.row c' r) (touch_same d n (sym (ap is_some c.stroke-of.ensures) ∙ sym w.if-is-some.ensures) p)) (λ p c' r _ _. refl) in simp w.store-is h
+          (λ p c' r _. ap (λ t. t && in_line column (column + count) c.args.row c' r) (touch_same d n (sym (ap is_some c.stroke_of.ensures) ∙ sym w.if-is_some.ensures) p)) (λ p c' r _ _. refl) in simp w.store-is h
     ]

@@ -11,4 +11,4 @@ returns c =
     let s = c.args.self.now in
     let h = interleaved_of s in
     found_place h (interleaved_number s.columns (interleaved_of s).planes) (interleaved_numbering h) (length s.samples.now) c.args.plane c.args.column c.args.row
-    (planes_fit (length s.samples.now) s.columns s.rows) (omega arith) _ (grind (arith, nat_tests)) c.number-of.result (simp c.planes.ensures at c.number-of.ensures)
+    (planes_fit (length s.samples.now) s.columns s.rows) (omega arith) _ (grind (arith, nat_tests)) c.number_of.result (simp c.planes.ensures at c.number_of.ensures)

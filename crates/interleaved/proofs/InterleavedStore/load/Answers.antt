@@ -11,9 +11,9 @@ use Rattle.interleaved.proofs.Strides.{stride_below, stride_seen}
 use Rattle.interleaved.proofs.InterleavedStore.load.Goals as goal
 use Rattle.interleaved.proofs.InterleavedStore.load.Goals.{then-k-count, else-k-count}
 
-pub returns-in-default : goal.returns-in-default
-returns-in-default c = λ k h.
-    let none = c.in-default.ensures in
+pub returns-in_default : goal.returns-in_default
+returns-in_default c = λ k h.
+    let none = c.in_default.ensures in
     rw (c.fill.ensures.after (λ y e. e)) (get_or-replicate _ k _ _ h ∙ sym (seen_outside (interleaved_of c.args.self.now) c.args.plane (c.args.column + k) c.args.row (grind (arith, nat_tests))))
 
 pub loop-k-init : goal.loop-k-init

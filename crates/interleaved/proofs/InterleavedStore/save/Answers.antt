@@ -15,7 +15,7 @@ loop-k-init c =
 pub loop-k-preserved : goal.loop-k-preserved
 loop-k-preserved c =
     let found = c.in-Some.ensures in
-    let whole = run_whole (interleaved_of c.args.self.now) c.args.plane c.args.column c.args.row (length c.args.from.now) found.0 (sym c.if-not-row-has.ensures) in (
+    let whole = run_whole (interleaved_of c.args.self.now) c.args.plane c.args.column c.args.row (length c.args.from.now) found.0 (sym c.if-not-row_has.ensures) in (
       stride_next c.args.self.now c.args.plane c.args.row c.in-Some.start c.planes-planes.result found.1 c.planes-planes.ensures c.loop-k.self c.args.column c.loop-k.k c.args.from.now whole c.loop-k-test.true c.loop-k.invariant.0,
       λ k h. simp length-set (c.loop-k.invariant.1 k h),
     )
@@ -24,4 +24,4 @@ pub returns : goal.returns
 returns c =
     let found = c.in-Some.ensures in
     let all : c.loop-k.k ≡ length c.args.from.now = omega arith in
-    record { said = sym (run_whole (interleaved_of c.args.self.now) c.args.plane c.args.column c.args.row (length c.args.from.now) found.0 (sym c.if-not-row-has.ensures)); places = rw all at c.loop-k.invariant.0 }
+    record { said = sym (run_whole (interleaved_of c.args.self.now) c.args.plane c.args.column c.args.row (length c.args.from.now) found.0 (sym c.if-not-row_has.ensures)); places = rw all at c.loop-k.invariant.0 }

@@ -15,8 +15,8 @@ loop-k-preserved g c =
     let m = g.Self.Picture.meaning c.args.self.now in
     let fx : SFits w32 c.args.x = c.ranges.x in
     let fy : SFits w32 c.args.y = c.ranges.y in
-    let here : c.match-right-of.into ≡ value_at m c.args.channel (c.args.x +ℤ pos c.loop-k.k) c.args.y =
-    elim c.match-right-of.branch [
+    let here : c.match-right_of.into ≡ value_at m c.args.channel (c.args.x +ℤ pos c.loop-k.k) c.args.y =
+    elim c.match-right_of.branch [
       | in-Some w ↦
           let fa : SFits w32 w.in-Some.at = search rules in
           w.into-is
@@ -27,7 +27,7 @@ loop-k-preserved g c =
     let inv = simp to_z-of_z at c.loop-k.invariant in
     let long : c.loop-k.k < length c.loop-k.into = omega arith in
     simp to_z-of_z
-    (fill_more (λ k. value_at m c.args.channel (c.args.x +ℤ pos k) c.args.y) c.loop-k.into c.loop-k.k c.match-right-of.into long
+    (fill_more (λ k. value_at m c.args.channel (c.args.x +ℤ pos k) c.args.y) c.loop-k.into c.loop-k.k c.match-right_of.into long
     here inv)
 
 pub returns : goal.returns

@@ -14,7 +14,7 @@ returns-in-Some g c =
     let value : g.row.T.Denot → Float = λ s. g.T.Sample.value s c.args.full in
     let row = c.args.row.now in
     let found = simp to_z-of_z at c.in-Some.ensures in
-    c.to-f32.ensures
+    c.to_f32.ensures
     ∙ map_read value row c.in-Some.column c.index-row-column.result zero found.1 c.index-row-column.is
     ∙ ap (λ k. get_or (map value row) k zero) found.2
     ∙ sym (cond-true _ _ _ found.0)

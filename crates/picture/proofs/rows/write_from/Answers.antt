@@ -21,11 +21,11 @@ returns g c =
     let values : List Float = map value row in
     let lead = c.args.lead in
     let from = c.min-from.result in
-    two_parts (λ k. cond (ltb k lead) zero (get_or values (c.args.skip + (k - lead)) zero)) c.args.into.now c.fill.new.self c.write-whole.new.into
-    c.min-start.result (omega arith) c.fill.ensures.len c.write-whole.auto.into
+    two_parts (λ k. cond (ltb k lead) zero (get_or values (c.args.skip + (k - lead)) zero)) c.args.into.now c.fill.new.self c.write_whole.new.into
+    c.min-start.result (omega arith) c.fill.ensures.len c.write_whole.auto.into
     (λ k h. c.fill.ensures.clones k nan (simp length-take (omega arith)) refl ∙ sym (cond-true (ltb k lead) zero _ (lt-ltb k lead (omega arith))))
     (λ k h l.
-    c.write-whole.ensures k h
+    c.write_whole.ensures k h
     ∙ ap (λ l. get_or (map value l) k zero) (take_rest row from)
     ∙ ap (λ l. get_or l k zero) (sym (drop-map value from row))
     ∙ get_or-drop from values k zero

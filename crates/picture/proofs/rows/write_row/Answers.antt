@@ -42,6 +42,6 @@ returns g c =
     let fl : SFits w32 c.args.left = c.ranges.left in
     let fx : SFits w32 c.args.x = c.ranges.x in
     λ k h.
-    c.write-from.ensures k h
+    c.write_from.ensures k h
     ∙ aligned c.args.left c.args.x k _ _ (length c.args.row.now) (simp to_z-of_z at c.gap.ensures) (simp to_z-of_z at c.gap-2.ensures) _
     (sym (length-map c.args.row.now _))

@@ -8,18 +8,18 @@ all_left : {X : Type 0} (test : X → Bool) (xs : List X) (i : ℕ) (x : X) (b :
 all_left test xs i x b h e f =
     at_drop_more (all_of test) xs i x h ∙ ap (λ y. test y && all_of test (drop (i + 1) xs)) (sym e) ∙ ap (λ t. t && all_of test (drop (i + 1) xs)) (sym f)
 
-pub returns-then-not-is-exact : goal.returns-then-not-is-exact
-returns-then-not-is-exact g c =
+pub returns-then-not-is_exact : goal.returns-then-not-is_exact
+returns-then-not-is_exact g c =
     sym
     (all_left g.T.Sample.exact c.args.samples.now c.loop-sample.sample-index c.sample-item.result _ (omega arith) c.sample-item.is
-    c.if-not-is-exact.ensures)
+    c.if-not-is_exact.ensures)
     ∙ c.loop-sample.invariant
 
 pub loop-sample-preserved : goal.loop-sample-preserved
 loop-sample-preserved g c =
     sym
     (all_left g.T.Sample.exact c.args.samples.now c.loop-sample.sample-index c.sample-item.result _ (omega arith) c.sample-item.is
-    c.if-not-is-exact.ensures)
+    c.if-not-is_exact.ensures)
     ∙ c.loop-sample.invariant
 
 pub returns : goal.returns

@@ -6,10 +6,10 @@ use Rattle.picture.proofs.shapes.row_start.Goals as goal
 pub returns-then-row-height : goal.returns-then-row-height
 returns-then-row-height c =
     let a = c.args in
-    let ends = row_within a.channels a.region a.samples a.channel a.row (sym c.if-shape-allowed.ensures) (omega arith) (omega arith) in
+    let ends = row_within a.channels a.region a.samples a.channel a.row (sym c.if-shape_allowed.ensures) (omega arith) (omega arith) in
     (row_count a.channels a.region a.samples a.channel a.row ∙ search rules, search rules, search rules)
 
-pub returns-else-shape-allowed : goal.returns-else-shape-allowed
-returns-else-shape-allowed c =
+pub returns-else-shape_allowed : goal.returns-else-shape_allowed
+returns-else-shape_allowed c =
     let a = c.args in
     row_count a.channels a.region a.samples a.channel a.row ∙ search rules

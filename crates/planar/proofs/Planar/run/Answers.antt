@@ -10,7 +10,7 @@ use Rattle.planar.proofs.Planar.run.Goals as goal
 pub returns : goal.returns
 returns c =
     let s = c.args.self.now in
-    let found = c.in-ok-number.ensures in
+    let found = c.in_ok-number.ensures in
     let at = inside_parts (planar_of s) c.args.plane 0 c.args.row found.0 in
     let fits = planes_fit (length s.samples.now) s.columns s.rows in
     let row = row_below c.args.plane _ c.args.row s.rows s.columns at.0 at.2 in

@@ -6,5 +6,5 @@ use Rattle.planar.proofs.PlanarStore.lend.Goals as goal
 
 pub returns : goal.returns
 returns c =
-    let found = c.in-ok-first.ensures in
+    let found = c.in_ok-first.ensures in
     record { run = (search (rules, places), λ k h. grind (arith, nat_tests, places)); whole = sym found.0 }

@@ -11,5 +11,5 @@ returns c =
     let span : c.in-Some.first + n - c.in-Some.first ≡ n = omega arith in
     record {
       said = sym found.0;
-      places = rw (span, c.copy-from-slice.ensures.after, found.1) (changed_run s.samples.now c.args.from.now s.samples.ghost_name s.columns s.rows c.args.plane c.args.column c.args.row n refl found.0);
+      places = rw (span, c.copy_from_slice.ensures.after, found.1) (changed_run s.samples.now c.args.from.now s.samples.ghost_name s.columns s.rows c.args.plane c.args.column c.args.row n refl found.0);
     }

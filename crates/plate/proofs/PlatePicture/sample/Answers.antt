@@ -23,7 +23,7 @@ returns-in-Some c =
     let w : p.width < 2 ^ 16 = search rules in
     let h : p.height < 2 ^ 16 = search rules in
     let told = simp to_z-of_z at c.in-Some.ensures in
-    c.float-at.ensures
+    c.float_at.ensures
     ∙ ap (λ start. float_at p.bytes.now (start + 4 * c.in-Some.number)) c.from.ensures
     ∙ shown_value p.channels p.width p.height p.start p.bytes.now w h c.args.channel c.args.x c.args.y c.in-Some.number
     told.0 told.1

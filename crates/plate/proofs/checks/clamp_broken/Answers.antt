@@ -19,7 +19,7 @@ module _ (bytes : List ℕ) (k clamp : ℕ) (e : clamp ≡ clamp_at bytes k) whe
 pub loop-k-preserved : goal.loop-k-preserved
 loop-k-preserved c =
     let bytes = c.args.bytes.now in
-    elim c.if-byte-at-gt1.branch [
-      | then-byte-at-gt1 w ↦ w.broken-is ∙ broken bytes c.loop-k.k _ c.byte-at.ensures w.if-byte-at-gt1.true
-      | else-byte-at-gt1 w ↦ w.broken-is ∙ c.loop-k.invariant ∙ fine bytes c.loop-k.k _ c.byte-at.ensures w.if-byte-at-gt1.false
+    elim c.if-byte_at-gt1.branch [
+      | then-byte-at-gt1 w ↦ w.broken-is ∙ broken bytes c.loop-k.k _ c.byte_at.ensures w.if-byte_at-gt1.true
+      | else-byte-at-gt1 w ↦ w.broken-is ∙ c.loop-k.invariant ∙ fine bytes c.loop-k.k _ c.byte_at.ensures w.if-byte_at-gt1.false
     ]

@@ -17,7 +17,7 @@ loop-k-preserved c =
     let i = c.loop-k.k in
     let long : i < length records = omega (arith, c.loop-k.invariant.0) in (
       length-set records i _ ∙ c.loop-k.invariant.0,
-      λ k h. ap (λ r. get_or (set records i r) k (at 0)) c.record-at.ensures ∙ fill_by_more at records i (at 0) long c.loop-k.invariant.1 k h,
+      λ k h. ap (λ r. get_or (set records i r) k (at 0)) c.record_at.ensures ∙ fill_by_more at records i (at 0) long c.loop-k.invariant.1 k h,
     )
 
 pub returns : goal.returns

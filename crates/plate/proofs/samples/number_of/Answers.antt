@@ -18,15 +18,15 @@ pub returns : goal.returns
 returns c =
     let fx : SFits w32 c.args.x = c.ranges.x in
     let fy : SFits w32 c.args.y = c.ranges.y in
-    let across = simp to_z-of_z at c.in-ok-column.ensures in
-    let down = simp to_z-of_z at c.in-ok-row.ensures in
+    let across = simp to_z-of_z at c.in_ok-column.ensures in
+    let down = simp to_z-of_z at c.in_ok-row.ensures in
     let channel : c.args.channel < c.args.channels = omega arith in
     let wide = c.from-3.ensures in
     let high = c.from-2.ensures in
-    let number : (c.args.channel * c.from-2.result + c.in-ok-row.row) * c.from-3.result + c.in-ok-column.column ≡ sample_number c.args.width c.args.height c.args.channel c.in-ok-column.column c.in-ok-row.row = cc in (
+    let number : (c.args.channel * c.from-2.result + c.in_ok-row.row) * c.from-3.result + c.in_ok-column.column ≡ sample_number c.args.width c.args.height c.args.channel c.in_ok-column.column c.in_ok-row.row = cc in (
       and_from _ _ (lt-ltb _ _ channel) (and_from _ _ across.0 down.0),
       number
-          ∙ ap (λ k. sample_number c.args.width c.args.height c.args.channel k c.in-ok-row.row) across.2
+          ∙ ap (λ k. sample_number c.args.width c.args.height c.args.channel k c.in_ok-row.row) across.2
           ∙ ap (sample_number c.args.width c.args.height c.args.channel _) down.2,
-      rw number (below c.args.channels c.args.width c.args.height c.args.channel c.in-ok-column.column c.in-ok-row.row (omega arith) (omega arith) (omega arith) channel across.1 down.1),
+      rw number (below c.args.channels c.args.width c.args.height c.args.channel c.in_ok-column.column c.in_ok-row.row (omega arith) (omega arith) (omega arith) channel across.1 down.1),
     )

@@ -16,4 +16,4 @@ returns c =
     let three = simp to_z-of_z at c.from-2.ensures in
     let four = simp to_z-of_z at c.past-2.ensures in
     λ x y.
-    let h = simp to_z-of_z at (c.part-between.ensures x y) in cc
+    let h = simp to_z-of_z at (c.part_between.ensures x y) in cc

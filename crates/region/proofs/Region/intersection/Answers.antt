@@ -17,8 +17,8 @@ overlap-top-requires c =
     let g : SFits w32 c.args.rhs.top = search rules in
     (simp to_z-of_z (spans c.args.self).1, simp to_z-of_z (spans c.args.rhs).1)
 
-pub of-axes-requires : goal.of-axes-requires
-of-axes-requires c =
+pub of_axes-requires : goal.of_axes-requires
+of_axes-requires c =
     let f : SFits w32 c.overlap-left.result.0 = search rules in
     let g : SFits w32 c.overlap-top.result.0 = search rules in
     (simp to_z-of_z c.overlap-left.ensures.span, simp to_z-of_z c.overlap-top.ensures.span)
@@ -32,7 +32,7 @@ returns c =
     let f5 : SFits w32 c.overlap-left.result.0 = search rules in
     let f6 : SFits w32 c.overlap-top.result.0 = search rules in
     λ x y.
-    simp to_z-of_z at (c.of-axes.ensures x y)
+    simp to_z-of_z at (c.of_axes.ensures x y)
     ∙ ap (λ b. b && along c.overlap-top.result.0 c.overlap-top.result.1 y) (simp to_z-of_z at (c.overlap-left.ensures.positions x))
     ∙ ap (λ b. (along c.args.self.left c.args.self.width x && along c.args.rhs.left c.args.rhs.width x) && b)
     (simp to_z-of_z at (c.overlap-top.ensures.positions y))

@@ -16,4 +16,4 @@ returns c =
     λ p q.
     let across = simp to_z-of_z at (c.moved-left.ensures p) in
     let down = simp to_z-of_z at (c.moved-top.ensures q) in
-    let h = simp to_z-of_z at (c.part-between.ensures p q) in cc
+    let h = simp to_z-of_z at (c.part_between.ensures p q) in cc

@@ -20,10 +20,10 @@ returns c =
     let f6 : SFits w32 c.in-Some-shifted.top = search rules in
     let across = simp to_z-of_z at c.in-Some.ensures in
     let down = simp to_z-of_z at c.in-Some-shifted.ensures in
-    let two = sides r (sym c.is-empty.ensures.flag ∙ c.if-is-empty.false) in (
+    let two = sides r (sym c.is_empty.ensures.flag ∙ c.if-is_empty.false) in (
       or_right (is_empty r) _ (of_spans (r.left +ℤ x) (r.top +ℤ y) r.width r.height across.1 down.1 two.0 two.1),
       λ p q.
-          simp to_z-of_z at (c.of-axes.ensures (p +ℤ x) (q +ℤ y))
+          simp to_z-of_z at (c.of_axes.ensures (p +ℤ x) (q +ℤ y))
           ∙ ap (λ left. along left r.width (p +ℤ x) && along c.in-Some-shifted.top r.height (q +ℤ y)) across.0
           ∙ ap (λ top. along (r.left +ℤ x) r.width (p +ℤ x) && along top r.height (q +ℤ y)) down.0
           ∙ ap (λ b. b && along (r.top +ℤ y) r.height (q +ℤ y)) (along_moved r.left x p r.width)

@@ -14,11 +14,11 @@ returns-then-width-eq0 c =
     (λ e. and_right _ _ (along_none c.args.top y c.args.height e.1))
     c.then-width-eq0.either)
 
-pub invariant-of-result : goal.invariant-of-result
-invariant-of-result c =
+pub invariant_of-result : goal.invariant_of-result
+invariant_of-result c =
     let f : SFits w32 c.args.left = c.ranges.left in
     let g : SFits w32 c.args.top = c.ranges.top in
-    (simp to_z-of_z (of_spans c.args.left c.args.top c.args.width c.args.height c.requires.0 c.requires.1 (omega arith) (omega arith)), tt)
+    record { ok = simp to_z-of_z (of_spans c.args.left c.args.top c.args.width c.args.height c.requires.0 c.requires.1 (omega arith) (omega arith)) }
 
 pub returns : goal.returns
 returns c =

@@ -19,12 +19,12 @@ returns c =
     let f4 : SFits w32 from = search rules in
     let f5 : SFits w32 to = search rules in
     let begins : from ≡ int_max a b = simp to_z-of_z at c.max-from.ensures.value in
-    let ends : to ≡ int_max (int_min (a +ℤ pos c.args.a-size) (b +ℤ pos c.args.b-size)) from =
+    let ends : to ≡ int_max (int_min (a +ℤ pos c.args.a_size) (b +ℤ pos c.args.b_size)) from =
     simp to_z-of_z at c.max-to.ensures.value
     ∙ ap (λ z. int_max z from)
     (simp to_z-of_z at c.min.ensures.value
     ∙ ap (λ z. int_min z c.end-2.result) (simp to_z-of_z at c.end.ensures)
-    ∙ ap (λ z. int_min (a +ℤ pos c.args.a-size) z) (simp to_z-of_z at c.end-2.ensures)) in
+    ∙ ap (λ z. int_min (a +ℤ pos c.args.a_size) z) (simp to_z-of_z at c.end-2.ensures)) in
     let far : to ≡ from +ℤ pos c.distance.result = simp to_z-of_z at c.distance.ensures in
     record {
       positions = λ at. simp to_z-of_z (overlap_along a b from to at _ _ _ begins ends far);

@@ -5,8 +5,8 @@ use Rattle.std.proofs.lemmas.Int.{ints, to_z-of_z}
 use Rattle.region.proofs.Cuts.{far_abs, far_fits}
 use Rattle.region.proofs.parts.distance.Goals as goal
 
-pub overflow-sub-from : goal.overflow-sub-from
-overflow-sub-from c = omega (arith, ints)
+pub overflow_sub-from : goal.overflow_sub-from
+overflow_sub-from c = omega (arith, ints)
 
 far : (c : goal.After-max) → c.max.result ≡ int_max (c.args.to -ℤ c.args.from) (pos 0)
 far c =
@@ -19,8 +19,8 @@ far c =
     let two = simp to_z-of_z at c.from-2.ensures in
     let h = simp to_z-of_z at c.max.ensures.value in cc
 
-pub overflow-cast-result : goal.overflow-cast-result
-overflow-cast-result c =
+pub overflow_cast-result : goal.overflow_cast-result
+overflow_cast-result c =
     let f : SFits w64 c.max.result = search rules in
     simp to_z-of_z (far_fits c.max.result c.args.from c.args.to c.ranges.from c.ranges.to (far c))
 

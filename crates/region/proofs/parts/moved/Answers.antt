@@ -4,11 +4,11 @@ use Rattle.std.proofs.lemmas.Int.{ints}
 use Rattle.region.proofs.Cuts.{moved_along}
 use Rattle.region.proofs.parts.moved.Goals as goal
 
-pub overflow-add-result : goal.overflow-add-result
-overflow-add-result c = omega (arith, ints)
+pub overflow_add-result : goal.overflow_add-result
+overflow_add-result c = omega (arith, ints)
 
-pub overflow-add-result-2 : goal.overflow-add-result-2
-overflow-add-result-2 c = omega (arith, ints)
+pub overflow_add-result-2 : goal.overflow_add-result-2
+overflow_add-result-2 c = omega (arith, ints)
 
 pub returns : goal.returns
 returns c at = moved_along c.args.from c.args.by _ _ at c.args.size (omega (arith, ints)) (omega (arith, ints))

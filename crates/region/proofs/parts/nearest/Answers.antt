@@ -13,8 +13,8 @@ fits c =
     let high : c.clamp.result ≤ℤ (c.args.from +ℤ pos c.args.size) = omega (arith, ints) in
     on_span c.args.from c.clamp.result c.args.size c.requires low high
 
-pub overflow-cast-result : goal.overflow-cast-result
-overflow-cast-result c = let f : SFits w64 c.clamp.result = search rules in simp to_z-of_z (fits c)
+pub overflow_cast-result : goal.overflow_cast-result
+overflow_cast-result c = let f : SFits w64 c.clamp.result = search rules in simp to_z-of_z (fits c)
 
 pub returns : goal.returns
 returns c =

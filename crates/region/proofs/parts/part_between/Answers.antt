@@ -26,6 +26,6 @@ returns c =
     let f7 : SFits w32 c.overlap-first.result.0 = search rules in
     let f8 : SFits w32 c.overlap-upper.result.0 = search rules in
     λ x y.
-    simp to_z-of_z at (c.of-axes.ensures x y)
+    simp to_z-of_z at (c.of_axes.ensures x y)
     ∙ part_has c.args.region c.args.left c.args.right c.args.top c.args.bottom x y _ _
     (simp to_z-of_z at (c.overlap-first.ensures.positions x)) (simp to_z-of_z at (c.overlap-upper.ensures.positions y))

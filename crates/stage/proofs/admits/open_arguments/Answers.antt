@@ -9,7 +9,7 @@ returns g c =
     let terms = c.args.terms.now in
     let values = value_at (g.P.Picture.meaning c.args.picture.now) in
     let same : terms.extras - 0 ≡ terms.extras = omega arith in
-    c.open-refusal.ensures terms.mark terms.region values
+    c.open_refusal.ensures terms.mark terms.region values
     ∙ (λ i.
     first_broken
     (open_checks (record { mark = terms.mark; region = terms.region; colors = terms.colors; kinds = take (same i) terms.kinds }) c.args.header

@@ -12,7 +12,7 @@ returns g c =
     let same : terms.extras - 0 ≡ terms.extras = omega arith in
     let fx : SFits w32 c.args.x = c.ranges.x in
     let fy : SFits w32 c.args.y = c.ranges.y in
-    simp to_z-of_z at (c.patch-refusal.ensures terms.mark terms.region values)
+    simp to_z-of_z at (c.patch_refusal.ensures terms.mark terms.region values)
     ∙ (λ i.
     first_broken
     (patch_checks (record { mark = terms.mark; region = terms.region; colors = terms.colors; kinds = take (same i) terms.kinds })

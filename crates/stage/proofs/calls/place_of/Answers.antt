@@ -15,8 +15,8 @@ returns c =
     let x = simp to_z-of_z at c.from.ensures in
     let y = simp to_z-of_z at c.from-2.ensures in
     let region = c.args.region in
-    let column = simp to_z-of_z at c.in-ok-column.ensures in
-    let row = simp to_z-of_z at c.in-ok-row.ensures in (
+    let column = simp to_z-of_z at c.in_ok-column.ensures in
+    let row = simp to_z-of_z at c.in_ok-row.ensures in (
       and_from (along region.left region.width c.args.x) (along region.top region.height c.args.y)
           (ap (along region.left region.width) (sym x) ∙ column.0) (ap (along region.top region.height) (sym y) ∙ row.0),
       column.2 ∙ ap (column_of region) x,

@@ -37,15 +37,15 @@ loop-k-preserved g c =
     (fill_more (λ k. value_at m c.args.channel (c.args.x +ℤ pos k) c.args.y) c.loop-k.into c.loop-k.k c.match-onward-2.into long
     here inv)
 
-pub returns-in-default : goal.returns-in-default
-returns-in-default g c =
+pub returns-in_default : goal.returns-in_default
+returns-in_default g c =
     let m = g.P.Picture.meaning c.args.picture.now in
     let fy : SFits w64 c.args.y = c.ranges.y in
     λ k h.
     c.fill.ensures.clones k nan h refl
     ∙ sym
     (value_off_lines m c.args.channel (c.args.x +ℤ pos k) c.args.y
-    (ap is_coordinate (none_on c.args.y) ∙ simp to_z-of_z at c.in-default.ensures))
+    (ap is_coordinate (none_on c.args.y) ∙ simp to_z-of_z at c.in_default.ensures))
 
 pub returns : goal.returns
 returns g c =

@@ -11,9 +11,9 @@ returns c =
     let filled = c.args.self.now.filled in
     let channel = c.args.channel in
     let same : terms.extras - 0 ≡ terms.extras = omega arith in
-    let old = c.source-layer.ensures ∙ ap (λ info. source_layer (setup_from terms) filled info.source) c.info-of-info.ensures in
+    let old = c.source_layer.ensures ∙ ap (λ info. source_layer (setup_from terms) filled info.source) c.info_of-info.ensures in
     let mode =
-    c.from-blending-info.ensures
-    ∙ ap (λ n. frame_mode channel terms.colors c.info-of-info.result (take n terms.kinds)) same
-    ∙ ap (λ info. frame_mode channel terms.colors info (take terms.extras terms.kinds)) c.info-of-info.ensures
+    c.from_blending_info.ensures
+    ∙ ap (λ n. frame_mode channel terms.colors c.info_of-info.result (take n terms.kinds)) same
+    ∙ ap (λ info. frame_mode channel terms.colors info (take terms.extras terms.kinds)) c.info_of-info.ensures
     in λ i. Some (record { old = old i; mode = mode i })

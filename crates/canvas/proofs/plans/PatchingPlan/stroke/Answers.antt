@@ -12,8 +12,8 @@ returns c =
     let channel = c.args.channel in
     let same : terms.extras - 0 ≡ terms.extras = omega arith in
     let mode =
-    c.in-ok-mode.ensures
-    ∙ ap (λ n. patch_mode channel terms.colors c.patch-info-of-info.result (take n terms.kinds)) same
-    ∙ ap (λ info. patch_mode channel terms.colors info (take terms.extras terms.kinds)) c.patch-info-of-info.ensures
+    c.in_ok-mode.ensures
+    ∙ ap (λ n. patch_mode channel terms.colors c.patch_info_of-info.result (take n terms.kinds)) same
+    ∙ ap (λ info. patch_mode channel terms.colors info (take terms.extras terms.kinds)) c.patch_info_of-info.ensures
     in
-    ap (λ old. stroke_by old (Some c.in-ok-mode.mode)) c.slot-layer.ensures ∙ ap (stroke_by (slot_layer (setup_from terms) 4)) mode
+    ap (λ old. stroke_by old (Some c.in_ok-mode.mode)) c.slot_layer.ensures ∙ ap (stroke_by (slot_layer (setup_from terms) 4)) mode

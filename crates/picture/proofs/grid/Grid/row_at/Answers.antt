@@ -4,7 +4,7 @@ use Rattle.std.proofs.lemmas.Int.{to_z-of_z}
 use Rattle.std.proofs.lemmas.Bool.{and_right}
 use Rattle.picture.proofs.grid.Grid.row_at.Goals as goal
 
-pub returns-in-err-row : goal.returns-in-err-row
-returns-in-err-row g c =
+pub returns-in_err-row : goal.returns-in_err-row
+returns-in_err-row g c =
     let fy : SFits w32 c.args.y = c.ranges.y in
-    rw c.from-residual.ensures (and_right _ _ (simp (to_z-of_z, c.region.ensures) at c.in-err-row.ensures))
+    rw c.from_residual.ensures (and_right _ _ (simp (to_z-of_z, c.region.ensures) at c.in_err-row.ensures))

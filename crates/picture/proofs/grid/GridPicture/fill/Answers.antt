@@ -23,7 +23,7 @@ returns-in-Some g c =
     let fl : SFits w32 c.left.result = search rules in
     let s = c.args.self.now in
     let in_row = simp to_z-of_z at c.in-Some.ensures in
-    let wrote = simp to_z-of_z at c.write-row.ensures in
+    let wrote = simp to_z-of_z at c.write_row.ensures in
     λ k h.
     wrote k h
     ∙ grid_row g.T.Sample.value (channels_of s) (region_of s) s.samples.now c.in-Some.row.now s.full c.args.channel c.left.result

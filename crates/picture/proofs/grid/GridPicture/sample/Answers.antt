@@ -20,6 +20,6 @@ returns-in-Some g c =
     let fl : SFits w32 c.left.result = search rules in
     let s = c.args.self.now in
     let in_row = simp to_z-of_z at c.in-Some.ensures in
-    simp to_z-of_z at c.read-row.ensures
+    simp to_z-of_z at c.read_row.ensures
     ∙ grid_row g.T.Sample.value (channels_of s) (region_of s) s.samples.now c.in-Some.row.now s.full c.args.channel c.left.result
     c.args.x c.args.y in_row.0 in_row.1 in_row.2 (c.left.ensures ∙ ap (λ r. r.left) c.region.ensures)

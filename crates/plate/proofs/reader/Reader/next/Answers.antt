@@ -4,24 +4,24 @@ use Rattle.plate.specs.Format.{length_of}
 use Rattle.plate.proofs.Sound.{Sound, sound}
 use Rattle.plate.proofs.reader.Reader.next.Goals as goal
 
-pub overflow-add-self : goal.overflow-add-self
-overflow-add-self c =
-    let s = sound _ _ c.in-ok-checked.ensures in
+pub overflow_add-self : goal.overflow_add-self
+overflow_add-self c =
+    let s = sound _ _ c.in_ok-checked.ensures in
     let left = ap length c.rest-bytes.ensures ∙ length-drop c.args.self.now.byte c.args.input.now in
     omega arith
 
-pub overflow-add-self-2 : goal.overflow-add-self-2
-overflow-add-self-2 c =
-    let s = sound _ _ c.in-ok-checked.ensures in
+pub overflow_add-self-2 : goal.overflow_add-self-2
+overflow_add-self-2 c =
+    let s = sound _ _ c.in_ok-checked.ensures in
     let left = ap length c.rest-bytes.ensures ∙ length-drop c.args.self.now.byte c.args.input.now in
     omega arith
 
-pub invariant-of-self : goal.invariant-of-self
-invariant-of-self c =
-    let s = sound _ _ c.in-ok-checked.ensures in
+pub invariant_of-self : goal.invariant_of-self
+invariant_of-self c =
+    let s = sound _ _ c.in_ok-checked.ensures in
     (omega arith, tt)
 
 pub of-plate-requires : goal.of-plate-requires
 of-plate-requires c =
-    let s = sound _ _ c.in-ok-checked.ensures in
+    let s = sound _ _ c.in_ok-checked.ensures in
     (s.colors, (s.extras, (s.width, s.height)))

@@ -6,12 +6,12 @@ use Rattle.stage.specs.Stages.{stamp_of}
 use Rattle.stage.proofs.Steps.{refuses, takes, nothing_painted}
 use Rattle.stage.proofs.stage.Stage.abandon.Goals as goal
 
-pub returns-in-Some-why-not-abandon : goal.returns-in-Some-why-not-abandon
-returns-in-Some-why-not-abandon g c =
+pub returns-in-Some-why_not_abandon : goal.returns-in-Some-why_not_abandon
+returns-in-Some-why_not_abandon g c =
     record {
       step =
-          refuses g.S.Store.held c.args.self.now c.in-Some.terms c.in-Some.is (abandoning (stamp_of c.args.ticket)) c.in-Some-why-not-abandon.refusal
-          c.in-Some-why-not-abandon.ensures;
+          refuses g.S.Store.held c.args.self.now c.in-Some.terms c.in-Some.is (abandoning (stamp_of c.args.ticket)) c.in-Some-why_not_abandon.refusal
+          c.in-Some-why_not_abandon.ensures;
       back = refl;
     }
 
@@ -22,7 +22,7 @@ returns g c =
     record {
       step =
           takes g.S.Store.held stage c.in-Some.terms c.in-Some.is (abandoning (stamp_of c.args.ticket))
-          (record { filled = stage.filled; opened = None; last = stage.last }) h None c.in-default-why-not-abandon.ensures refl refl
+          (record { filled = stage.filled; opened = None; last = stage.last }) h None c.in_default-why_not_abandon.ensures refl refl
           (nothing_painted (setup_from c.in-Some.terms) h);
       back = tt;
     }

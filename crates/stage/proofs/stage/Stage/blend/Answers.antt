@@ -8,12 +8,12 @@ use Rattle.stage.specs.Stages.{view_of, opened_in, stamp_of}
 use Rattle.stage.proofs.Steps.{refuses, takes}
 use Rattle.stage.proofs.stage.Stage.blend.Goals as goal
 
-pub returns-in-Some-why-not-draw : goal.returns-in-Some-why-not-draw
-returns-in-Some-why-not-draw g c =
+pub returns-in-Some-why_not_draw : goal.returns-in-Some-why_not_draw
+returns-in-Some-why_not_draw g c =
     record {
       step =
-          refuses g.S.Store.held c.args.self.now c.in-Some.terms c.in-Some.is (blending (stamp_of c.args.ticket)) c.in-Some-why-not-draw.refusal
-          c.in-Some-why-not-draw.ensures;
+          refuses g.S.Store.held c.args.self.now c.in-Some.terms c.in-Some.is (blending (stamp_of c.args.ticket)) c.in-Some-why_not_draw.refusal
+          c.in-Some-why_not_draw.ensures;
       back = refl;
     }
 
@@ -28,10 +28,10 @@ returns g c =
     record {
       step =
           takes g.S.Store.held stage c.in-Some.terms c.in-Some.is (blending (stamp_of c.args.ticket))
-          (record { filled = c.with-flag-self.result; opened = None; last = frame.header.number }) (g.S.Store.held c.blend-frame.new.store)
-          (Some (fills s (slots_in s stage.filled h) (frame_in s h o))) c.in-default-why-not-draw.ensures
-          ((λ i. record { filled = c.with-flag-self.ensures i; opened = None; last = frame.header.number })
+          (record { filled = c.with_flag-self.result; opened = None; last = frame.header.number }) (g.S.Store.held c.blend_frame.new.store)
+          (Some (fills s (slots_in s stage.filled h) (frame_in s h o))) c.in_default-why_not_draw.ensures
+          ((λ i. record { filled = c.with_flag-self.ensures i; opened = None; last = frame.header.number })
           ∙ sym (ap (λ q. book_blended (opened_in q) b) c.in-Some-opened.is))
-          (ap (λ q. on_frame (frame_at s h (opened_in q)) (fills s (slots_in s stage.filled h))) c.in-Some-opened.is) c.blend-frame.ensures;
+          (ap (λ q. on_frame (frame_at s h (opened_in q)) (fills s (slots_in s stage.filled h))) c.in-Some-opened.is) c.blend_frame.ensures;
       back = tt;
     }

@@ -13,16 +13,16 @@ use Rattle.stage.proofs.Refusals.{no_frame}
 use Rattle.stage.proofs.Steps.{refuses, takes}
 use Rattle.stage.proofs.stage.Stage.patch.Goals as goal
 
-pub returns-in-Some-why-not-patch : goal.returns-in-Some-why-not-patch
-returns-in-Some-why-not-patch g c =
+pub returns-in-Some-why_not_patch : goal.returns-in-Some-why_not_patch
+returns-in-Some-why_not_patch g c =
     let fx : SFits w32 c.args.x = c.ranges.x in
     let fy : SFits w32 c.args.y = c.ranges.y in
     let patch : Patch = record { rectangle = c.args.rectangle; x = c.args.x; y = c.args.y; records = c.args.records.now; sheet = image_of (g.P.Picture.meaning c.args.sheet.now) } in
-    refuses g.S.Store.held c.args.self.now c.in-Some.terms c.in-Some.is (patching (stamp_of c.args.ticket.now) patch) c.in-Some-why-not-patch.refusal
-    (simp to_z-of_z at c.in-Some-why-not-patch.ensures)
+    refuses g.S.Store.held c.args.self.now c.in-Some.terms c.in-Some.is (patching (stamp_of c.args.ticket.now) patch) c.in-Some-why_not_patch.refusal
+    (simp to_z-of_z at c.in-Some-why_not_patch.ensures)
 
-pub returns-in-default-opened : goal.returns-in-default-opened
-returns-in-default-opened g c =
+pub returns-in_default-opened : goal.returns-in_default-opened
+returns-in_default-opened g c =
     let fx : SFits w32 c.args.x = c.ranges.x in
     let fy : SFits w32 c.args.y = c.ranges.y in
     let stage = c.args.self.now in
@@ -30,9 +30,9 @@ returns-in-default-opened g c =
     let h = g.S.Store.held stage.store in
     let stamp = stamp_of c.args.ticket.now in
     let patch : Patch = record { rectangle = c.args.rectangle; x = c.args.x; y = c.args.y; records = c.args.records.now; sheet = image_of (g.P.Picture.meaning c.args.sheet.now) } in
-    let fine = simp to_z-of_z at c.in-default-why-not-patch.ensures in
+    let fine = simp to_z-of_z at c.in_default-why_not_patch.ensures in
     let Fine : Option OpenFrame → Type 0 = λ o. None ≡ first_broken (patch_checks s patch ++ draw_state s (open_number (frame_at s h (opened_in o))) stamp (fits_store (size_of h) s)) in
-    absurd (no_frame (patch_checks s patch) s stamp (fits_store (size_of h) s) (subst Fine c.in-default-opened.is fine))
+    absurd (no_frame (patch_checks s patch) s stamp (fits_store (size_of h) s) (subst Fine c.in_default-opened.is fine))
 
 pub returns : goal.returns
 returns g c =
@@ -44,5 +44,5 @@ returns g c =
     let o = opened_from c.in-Some-opened.frame in
     let patch : Patch = record { rectangle = c.args.rectangle; x = c.args.x; y = c.args.y; records = c.args.records.now; sheet = image_of (g.P.Picture.meaning c.args.sheet.now) } in
     takes g.S.Store.held stage c.in-Some.terms c.in-Some.is (patching (stamp_of c.args.ticket.now) patch) (view_of g.S.Store.held stage).book
-    (g.S.Store.held c.draw-patch.new.store) (Some (patches s (frame_in s h o) patch)) (simp to_z-of_z at c.in-default-why-not-patch.ensures) refl
-    (ap (λ q. on_frame (frame_at s h (opened_in q)) (λ f. patches s f patch)) c.in-Some-opened.is) (simp to_z-of_z at c.draw-patch.ensures)
+    (g.S.Store.held c.draw_patch.new.store) (Some (patches s (frame_in s h o) patch)) (simp to_z-of_z at c.in_default-why_not_patch.ensures) refl
+    (ap (λ q. on_frame (frame_at s h (opened_in q)) (λ f. patches s f patch)) c.in-Some-opened.is) (simp to_z-of_z at c.draw_patch.ensures)

@@ -9,14 +9,14 @@ use Rattle.stage.specs.Stages.{setup_in, view_of}
 use Rattle.stage.proofs.Shows.{no_position, no_channel, shows_empty, shows_sample}
 use Rattle.stage.proofs.stage.Stage.show.Goals as goal
 
-pub returns-in-default-place-of : goal.returns-in-default-place-of
-returns-in-default-place-of g c =
+pub returns-in_default-place_of : goal.returns-in_default-place_of
+returns-in_default-place_of g c =
     let stage = c.args.self.now in
     let b = (view_of g.S.Store.held stage).book in
     let h = g.S.Store.held stage.store in
     let fx : SFits w32 c.args.x = c.ranges.x in
     let fy : SFits w32 c.args.y = c.ranges.y in
-    no_position (setup_from c.in-Some.terms) b h c.args.slot c.args.channel c.args.x c.args.y (simp to_z-of_z at c.in-default-place-of.ensures)
+    no_position (setup_from c.in-Some.terms) b h c.args.slot c.args.channel c.args.x c.args.y (simp to_z-of_z at c.in_default-place_of.ensures)
     ∙ sym (ap (λ o. shown_by (setup_in o) b h c.args.slot c.args.channel c.args.x c.args.y) c.in-Some.is)
 
 pub returns-then-channel-channels : goal.returns-then-channel-channels
@@ -36,7 +36,7 @@ returns-then-not-self-slot g c =
     let h = g.S.Store.held stage.store in
     let fx : SFits w32 c.args.x = c.ranges.x in
     let fy : SFits w32 c.args.y = c.ranges.y in
-    let place = simp to_z-of_z at c.in-Some-place-of.ensures in
+    let place = simp to_z-of_z at c.in-Some-place_of.ensures in
     let channel : c.args.channel < channels_of s = subst (λ n. c.args.channel < n) c.channels-channels.ensures.sum c.if-channel-channels.false in
     shows_empty s b h c.args.slot c.args.channel c.args.x c.args.y c.if-slot-ge4.false channel place.0 c.if-not-self-slot.true
     ∙ sym (ap (λ o. shown_by (setup_in o) b h c.args.slot c.args.channel c.args.x c.args.y) c.in-Some.is)
@@ -49,7 +49,7 @@ returns g c =
     let h = g.S.Store.held stage.store in
     let fx : SFits w32 c.args.x = c.ranges.x in
     let fy : SFits w32 c.args.y = c.ranges.y in
-    let place = simp to_z-of_z at c.in-Some-place-of.ensures in
+    let place = simp to_z-of_z at c.in-Some-place_of.ensures in
     let count = c.channels-channels.ensures.sum in
     let channel : c.args.channel < channels_of s = subst (λ n. c.args.channel < n) count c.if-channel-channels.false in
     shows_sample s b h c.args.slot c.args.channel c.args.x c.args.y c.if-slot-ge4.false channel place.0 c.get.result c.if-not-self-slot.false

@@ -12,14 +12,14 @@ use Rattle.stage.specs.Stages.{view_of}
 use Rattle.stage.proofs.Starts.{started, unstarted, start-taken, start_fits}
 use Rattle.stage.proofs.stage.Stage.start.Goals as goal
 
-pub returns-then-is-some : goal.returns-then-is-some
-returns-then-is-some g c =
+pub returns-then-is_some : goal.returns-then-is_some
+returns-then-is_some g c =
     let stage = c.args.self.now in
     record {
       start =
           start-refused (view_of g.S.Store.held stage) c.args.mark c.args.region c.args.colors c.args.kinds.now AlreadyStarted
           (started stage.terms (g.S.Store.held stage.store) c.args.region c.args.colors c.args.kinds.now
-          (sym c.is-some.ensures ∙ c.if-is-some.true));
+          (sym c.is_some.ensures ∙ c.if-is_some.true));
       laws = all_laws;
     }
 
@@ -32,17 +32,17 @@ returns-in-Some g c =
     record {
       start =
           start-refused (view_of g.S.Store.held stage) c.args.mark c.args.region c.args.colors c.args.kinds.now c.in-Some.refusal
-          (unstarted stage.terms h c.args.region c.args.colors c.args.kinds.now (sym c.is-some.ensures ∙ c.if-is-some.false)
+          (unstarted stage.terms h c.args.region c.args.colors c.args.kinds.now (sym c.is_some.ensures ∙ c.if-is_some.false)
           ∙ sym (c.in-Some.ensures ∙ ap (λ s. start_refusal s c.args.region c.args.colors c.args.kinds.now) size));
       laws = all_laws;
     }
 
-pub returns-in-default-new : goal.returns-in-default-new
-returns-in-default-new g c =
+pub returns-in_default-new : goal.returns-in_default-new
+returns-in_default-new g c =
     absurd
-    (both_ways _ c.in-default-new.ensures
+    (both_ways _ c.in_default-new.ensures
     (start_fits (record { columns = c.columns-columns.result; rows = c.rows-rows.result; planes = c.planes-planes.result }) c.args.region c.args.colors
-    c.args.kinds.now c.in-default.ensures))
+    c.args.kinds.now c.in_default.ensures))
 
 pub returns : goal.returns
 returns g c =
@@ -53,8 +53,8 @@ returns g c =
     record {
       start =
           start-taken stage.terms (view_of g.S.Store.held stage).book h c.in-Some-new.terms c.args.mark c.args.region c.args.colors c.args.kinds.now
-          (unstarted stage.terms h c.args.region c.args.colors c.args.kinds.now (sym c.is-some.ensures ∙ c.if-is-some.false)
-          ∙ sym (c.in-default.ensures ∙ ap (λ s. start_refusal s c.args.region c.args.colors c.args.kinds.now) size))
+          (unstarted stage.terms h c.args.region c.args.colors c.args.kinds.now (sym c.is_some.ensures ∙ c.if-is_some.false)
+          ∙ sym (c.in_default.ensures ∙ ap (λ s. start_refusal s c.args.region c.args.colors c.args.kinds.now) size))
           c.in-Some-new.ensures.1;
       laws = all_laws;
     }

@@ -10,8 +10,8 @@ use Rattle.stage.specs.Stages.{opened_in, stamp_of}
 use Rattle.stage.proofs.Refusals.{by_arguments, by_state}
 use Rattle.stage.proofs.stage.Stage.why_not_patch.Goals as goal
 
-pub returns-then-is-some : goal.returns-then-is-some
-returns-then-is-some g c =
+pub returns-then-is_some : goal.returns-then-is_some
+returns-then-is_some g c =
     let s = setup_from c.args.terms.now in
     let stage = c.args.self.now in
     let h = g.S.Store.held stage.store in
@@ -19,7 +19,7 @@ returns-then-is-some g c =
     let fy : SFits w32 c.args.y = c.ranges.y in
     let patch : Patch = record { rectangle = c.args.rectangle; x = c.args.x; y = c.args.y; records = c.args.records.now; sheet = image_of (g.P.Picture.meaning c.args.sheet.now) } in
     by_arguments (patch_checks s patch) (draw_state s (open_number (frame_at s h (opened_in stage.opened))) (stamp_of c.args.ticket.now) (fits_store (size_of h) s))
-    c.patch-arguments-asked.result (simp to_z-of_z at c.patch-arguments-asked.ensures) (sym c.is-some.ensures ∙ c.if-is-some.true)
+    c.patch_arguments-asked.result (simp to_z-of_z at c.patch_arguments-asked.ensures) (sym c.is_some.ensures ∙ c.if-is_some.true)
 
 pub returns : goal.returns
 returns g c =
@@ -30,5 +30,5 @@ returns g c =
     let fy : SFits w32 c.args.y = c.ranges.y in
     let patch : Patch = record { rectangle = c.args.rectangle; x = c.args.x; y = c.args.y; records = c.args.records.now; sheet = image_of (g.P.Picture.meaning c.args.sheet.now) } in
     by_state (patch_checks s patch) (draw_state s (open_number (frame_at s h (opened_in stage.opened))) (stamp_of c.args.ticket.now) (fits_store (size_of h) s))
-    c.patch-arguments-asked.result (simp to_z-of_z at c.patch-arguments-asked.ensures) c.why-not-draw.result (sym c.is-some.ensures ∙ c.if-is-some.false)
-    c.why-not-draw.ensures
+    c.patch_arguments-asked.result (simp to_z-of_z at c.patch_arguments-asked.ensures) c.why_not_draw.result (sym c.is_some.ensures ∙ c.if-is_some.false)
+    c.why_not_draw.ensures
