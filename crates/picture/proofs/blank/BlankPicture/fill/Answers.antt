@@ -7,4 +7,4 @@ use Rattle.picture.proofs.blank.BlankPicture.fill.Goals as goal
 pub returns : goal.returns
 returns c =
     let b = c.args.self.now in
-    λ k h. c.fill.ensures.clones k nan h refl ∙ sym (value_blank b.channels b.region c.args.-channel (c.args.-x +ℤ pos k) c.args.-y)
+    λ k h. c.fill.ensures.clones k nan h refl ∙ sym (value_blank b.channels b.region c.args._channel (c.args._x +ℤ pos k) c.args._y)

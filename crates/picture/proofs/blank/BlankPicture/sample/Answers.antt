@@ -6,4 +6,4 @@ use Rattle.picture.proofs.blank.BlankPicture.sample.Goals as goal
 pub returns : goal.returns
 returns c =
     let b = c.args.self.now in
-    sym (value_blank b.channels b.region c.args.-channel c.args.-x c.args.-y)
+    sym (value_blank b.channels b.region c.args._channel c.args._x c.args._y)
