@@ -1,5 +1,5 @@
 -- The numbers of the modes and of the kinds of extra channels, and which modes read alpha.
-use Rattle.std.specs.Prelude.{ℕ, Bool, true, false, not, ◌&&◌, List, [], ◌∷◌, slice_index_or}
+use Rattle.std.specs.Prelude.{ℕ, Bool, true, false, List, [], ◌∷◌, slice_index_or}
 use Rattle.blend.specs.declared.modes.FrameBlendMode.{FrameBlendMode}
 use Rattle.blend.specs.declared.modes.FrameBlendMode.TheVariants as frame
 use Rattle.blend.specs.declared.modes.PatchBlendMode.{PatchBlendMode}

@@ -1,19 +1,13 @@
 -- Runs among samples: of interleaved planes the samples of a run lie a stride apart.
-use Rattle.std.proofs.Common.{◌≡◌, ℕ, ◌+◌, ◌-◌, ◌*◌, ◌<◌, ◌≤◌, true, cond, ◌&&◌, ltb, leb, List, length, get_or, set, ap, ◌∙◌, arith, rules}
+use Rattle.std.proofs.Common.{◌≡◌, ℕ, ◌+◌, ◌-◌, ◌*◌, ◌<◌, true, List, length, get_or, set, ◌∙◌, arith}
 use lib.Ieee.{Float, nan}
-use base.Fml.{GName}
-use borrow.Rule.Slice.PartMut.{put_mid}
-use Rattle.std.proofs.lemmas.List.{places}
-use Rattle.std.proofs.lemmas.Slice.{drop-put_mid}
-use Rattle.std.proofs.lemmas.Bool.Decides.{nat_tests}
 use Rattle.interleaved.specs.declared.Interleaved.{Interleaved}
 use Rattle.store.specs.Held.{inside, seen, in_run, run_inside_lem, Changed}
-use Rattle.layout.specs.Layout.{planes_of, planar, planar_number, interleaved, interleaved_number}
+use Rattle.layout.specs.Layout.{interleaved, interleaved_number}
 use Rattle.interleaved.specs.Make.{interleaved_of}
-use Rattle.store.proofs.Changes.{inside_kept, changed_like, changed_next}
-use Rattle.store.proofs.Inside.{inside_parts, run_parts, run_inside, in_run_lem}
-use Rattle.layout.proofs.Numbers.{row_below, digits_same}
-use Rattle.layout.proofs.Places.{planes_fit, interleaved_numbering, changed_at, changed_put}
+use Rattle.store.proofs.Changes.{inside_kept, changed_next}
+use Rattle.store.proofs.Inside.{run_inside}
+use Rattle.layout.proofs.Places.{planes_fit, interleaved_numbering, changed_put}
 
 module _ (s : Interleaved) (p r start planes : ℕ) (is-start : start ≡ interleaved_number s.columns (interleaved_of s).planes p 0 r) (is-planes : planes ≡ (interleaved_of s).planes) where
   -- the samples of a row of one plane lie as far apart as there are planes

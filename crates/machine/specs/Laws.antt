@@ -1,12 +1,12 @@
 -- The laws of the definition, over every list of calls.
-use Rattle.std.specs.Prelude.{◌≡◌, ℕ, ◌+◌, Bool, true, false, ◌&&◌, List, [], ◌∷◌, ◌++◌, map, ℤ, ◌+ℤ◌, Some, None, Option}
+use Rattle.std.specs.Prelude.{◌≡◌, ℕ, true, false, ◌&&◌, List, [], ◌∷◌, ◌++◌, map, ℤ, ◌+ℤ◌}
 use Rattle.region.specs.Bounds.{place_allowed}
 use Rattle.region.specs.Positions.{has, Holds}
 use Rattle.machine.specs.declared.calls.Header.{Header}
 use Rattle.machine.specs.declared.calls.FrameRecord.{FrameRecord}
-use Rattle.machine.specs.Calls.{Image, Patch, Stamp, Call, opening, patching, blending, abandoning, clearing, Answer, done, opened, refused}
+use Rattle.machine.specs.Calls.{Image, Patch, Call, opening, patching, blending, abandoning, clearing, Answer, done, opened, refused}
 use Rattle.machine.specs.Checks.{Setup, Size, fits_store}
-use Rattle.machine.specs.Machine.{Work, begun, drawn, run, answers, show}
+use Rattle.machine.specs.Machine.{begun, drawn, run, answers, show}
 
 -- two stages that start alike: one mark, one colour count, one list of kinds, and each has a store that its start takes
 pub record Alike (sizeA : Size) (a : Setup) (sizeB : Size) (b : Setup) : Type 0 where

@@ -1,21 +1,19 @@
 -- The definition of a stage: a machine that keeps what start took, four slots, the open frame and the last blended number.
 -- It is fed calls alone. Everything drawn is said position by position.
-use Rattle.std.specs.Prelude.{ℕ, ◌+◌, ◌-◌, Bool, true, false, cond, ◌&&◌, List, [], ◌∷◌, map, length, ℤ, pos, ◌+ℤ◌, ◌-ℤ◌, Some, None, Option, ◌==◌, nat_lt, Float}
+use Rattle.std.specs.Prelude.{ℕ, ◌+◌, Bool, false, cond, ◌&&◌, List, [], ◌∷◌, map, ℤ, pos, ◌+ℤ◌, ◌-ℤ◌, Some, None, Option, ◌==◌, nat_lt, Float}
 use Rattle.refusal.specs.declared.Refusal.{Refusal}
 use Rattle.sample.specs.Samples.{zero}
 use Rattle.region.specs.declared.Region.{Region}
 use Rattle.region.specs.Positions.{along, has}
 use Rattle.formulas.specs.declared.Operands.{Operands}
-use Rattle.blend.specs.declared.modes.Kind.{Kind}
 use Rattle.blend.specs.declared.records.BlendMode.{BlendMode}
 use Rattle.blend.specs.declared.records.BlendingInfo.{BlendingInfo}
 use Rattle.blend.specs.declared.records.PatchBlendingInfo.{PatchBlendingInfo}
 use Rattle.blend.specs.Tables.{frame_mode, patch_mode, formula}
 use Rattle.machine.specs.declared.calls.Header.{Header}
-use Rattle.machine.specs.declared.calls.Rectangle.{Rectangle}
 use Rattle.machine.specs.declared.calls.Shown.{Shown}
 use Rattle.machine.specs.declared.calls.Shown.TheVariants.{Outside, Empty, Sample}
-use Rattle.machine.specs.Calls.{Canvas, Image, Patch, Stamp, Call, opening, patching, blending, abandoning, clearing, Answer, done, opened, refused}
+use Rattle.machine.specs.Calls.{Canvas, Image, Patch, Call, opening, patching, blending, abandoning, clearing, Answer, done, opened, refused}
 use Rattle.machine.specs.Checks.{Setup, Size, channels_of, frame_info, patch_info, record_of, checks, first_broken, start_checks, kind_of, slots_of_stage}
 
 -- ---- what is drawn where

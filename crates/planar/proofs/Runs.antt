@@ -1,17 +1,17 @@
 -- Runs among samples: of planes one after another a run is one piece.
-use Rattle.std.proofs.Common.{◌≡◌, ℕ, ◌+◌, ◌-◌, ◌*◌, ◌<◌, ◌≤◌, true, cond, ◌&&◌, ltb, leb, List, length, get_or, set, ap, ◌∙◌, arith, rules}
+use Rattle.std.proofs.Common.{◌≡◌, ℕ, ◌+◌, ◌-◌, ◌*◌, ◌<◌, ◌≤◌, true, cond, ◌&&◌, ltb, leb, List, length, get_or, ap, arith, rules}
 use lib.Ieee.{Float, nan}
 use base.Fml.{GName}
 use borrow.Rule.Slice.PartMut.{put_mid}
 use Rattle.std.proofs.lemmas.List.{places}
 use Rattle.std.proofs.lemmas.Slice.{drop-put_mid}
 use Rattle.std.proofs.lemmas.Bool.Decides.{nat_tests}
-use Rattle.store.specs.Held.{inside, seen, in_run, run_inside_lem, Changed}
+use Rattle.store.specs.Held.{inside, in_run, run_inside_lem, Changed}
 use Rattle.layout.specs.Layout.{planes_of, planar, planar_number}
-use Rattle.store.proofs.Changes.{inside_kept, changed_like, changed_next}
-use Rattle.store.proofs.Inside.{inside_parts, run_parts, run_inside, in_run_lem}
+use Rattle.store.proofs.Changes.{changed_like}
+use Rattle.store.proofs.Inside.{inside_parts, run_parts, in_run_lem}
 use Rattle.layout.proofs.Numbers.{row_below, digits_same}
-use Rattle.layout.proofs.Places.{planes_fit, interleaved_numbering, changed_at, changed_put}
+use Rattle.layout.proofs.Places.{planes_fit, changed_at}
 
 -- what is read after a write to a part
 get_or_put_mid : (xs zs : List Float) (i n m : ℕ) → length zs ≡ n → i + n ≤ length xs → get_or (put_mid i n xs zs) m nan ≡ cond (leb i m && ltb m (i + n)) (get_or zs (m - i) nan) (get_or xs m nan)

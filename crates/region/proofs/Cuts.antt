@@ -1,12 +1,11 @@
 -- Facts of parts of axes and regions, by their positions.
-use Rattle.std.proofs.Common.{◌≡◌, ℕ, ◌<◌, ◌≤◌, Bool, true, false, ◌&&◌, ◌||◌, T, ltb, leb, ℤ, pos, negsuc, ◌+ℤ◌, ◌-ℤ◌, neg_ℤ, nat_abs, ◌≤ℤ◌, Decides, sym, refl, ap, ◌∙◌, ⊎_elim, arith, w32, Fits, SFits}
+use Rattle.std.proofs.Common.{◌≡◌, ℕ, ◌≤◌, Bool, true, false, ◌&&◌, T, ltb, leb, ℤ, pos, negsuc, ◌+ℤ◌, ◌-ℤ◌, nat_abs, ◌≤ℤ◌, sym, refl, ap, ◌∙◌, ⊎_elim, arith, w32, Fits, SFits}
 use lib.Signed.{le_z, lt_z, non_neg}
 use Rattle.std.specs.Int.{int_max, int_min}
 use Rattle.std.proofs.lemmas.Int.{ints, clamps}
-use Rattle.std.proofs.lemmas.Bool.{and_parts, and_from, and_left, eqb-true, lt-ltb, both_ways, cases_Bool, or_cases, or_left, or_right}
-use Rattle.std.proofs.lemmas.Bool.Decides.{nat_tests}
-use Rattle.region.specs.Bounds.{is_span, is_filled_or_empty, is_region}
-use Rattle.region.specs.Positions.{along, within, has, is_empty, Holds, can_move}
+use Rattle.std.proofs.lemmas.Bool.{and_left, both_ways, cases_Bool}
+use Rattle.region.specs.Bounds.{is_span}
+use Rattle.region.specs.Positions.{along, within, has}
 use Rattle.region.specs.declared.Region.{Region}
 use Rattle.region.proofs.Regions.{along-within, and_exchange}
 

@@ -1,12 +1,11 @@
 -- Facts of axes and regions by their positions.
 use Rattle.std.proofs.Common.{◌≡◌, ℕ, ◌<◌, Bool, true, false, ◌&&◌, ◌||◌, ltb, ℤ, pos, ◌+ℤ◌, neg_ℤ, Decides, refl, ⊎_elim, arith}
-use lib.Signed.{le_z, lt_z}
 use Rattle.std.specs.Int.{int_max, int_min}
 use Rattle.std.proofs.lemmas.Int.{ints, clamps}
 use Rattle.std.proofs.lemmas.Bool.{and_parts, and_from, and_left, eqb-true, lt-ltb, both_ways, cases_Bool, or_cases, or_left, or_right}
 use Rattle.std.proofs.lemmas.Bool.Decides.{nat_tests}
-use Rattle.region.specs.Bounds.{is_span, is_filled_or_empty, is_region}
-use Rattle.region.specs.Positions.{along, within, has, is_empty, Holds, can_move}
+use Rattle.region.specs.Bounds.{is_span, is_region}
+use Rattle.region.specs.Positions.{along, within, has, is_empty, Holds}
 use Rattle.region.specs.declared.Region.{Region}
 
 pub along_none : (from at : ℤ) (size : ℕ) → size ≡ 0 → along from size at ≡ false

@@ -1,5 +1,5 @@
 -- What a store means: its sizes, and one float for each place. What a call leaves of it is said by Changed.
-use Rattle.std.specs.Prelude.{◌≡◌, ℕ, ◌+◌, ◌-◌, Bool, cond, ◌&&◌, List, ◌==◌, nat_le, nat_lt, Float}
+use Rattle.std.specs.Prelude.{◌≡◌, ℕ, ◌+◌, Bool, cond, ◌&&◌, List, ◌==◌, nat_le, nat_lt, Float}
 use Rattle.std.specs.Borrow.{GName}
 use Rattle.sample.specs.Samples.{zero}
 

@@ -1,9 +1,8 @@
 -- The laws of runs: a run answers and shows as the definition does, and the definition keeps its own laws.
-use Rattle.std.proofs.Common.{◌≡◌, ℕ, List, [], ◌∷◌, ◌++◌, map, ◌+ℤ◌, sym, refl, ap, ◌∙◌, subst}
+use Rattle.std.proofs.Common.{ℕ, List, ◌++◌, map, ◌+ℤ◌, sym, refl, ap, ◌∙◌, subst}
 use Rattle.region.specs.declared.Region.{Region}
 use Rattle.machine.specs.Calls.{Call, Answer}
-use Rattle.machine.specs.Checks.{Setup, Size}
-use Rattle.machine.specs.Machine.{Work, begun, next, run, answers, show, setup_of}
+use Rattle.machine.specs.Machine.{begun, run, answers, show, setup_of}
 use Rattle.machine.specs.Laws.{Alike, AllOf, Accepted, call_moved, calls_of}
 use Rattle.machine.proofs.Moved as moved
 use Rattle.machine.proofs.Exchanged as exchanged

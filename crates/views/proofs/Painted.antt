@@ -4,7 +4,7 @@ use mathlib.Core.Path.{fun_ext}
 use Rattle.std.proofs.lemmas.Bool.{cases_Bool, and_parts, and_left, and_right, cond-true, cond-false, cond_both, ltb-true}
 use Rattle.sample.specs.Samples.{zero}
 use Rattle.picture.specs.Shapes.{column_of, row_of}
-use Rattle.store.specs.Held.{Held, inside, seen, Changed}
+use Rattle.store.specs.Held.{Held, seen, Changed}
 use Rattle.machine.specs.Calls.{Canvas}
 use Rattle.machine.specs.Checks.{Setup, channels_of, fits_store}
 use Rattle.machine.specs.Machine.{on_canvas}

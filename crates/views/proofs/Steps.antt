@@ -5,12 +5,11 @@ use Rattle.refusal.specs.declared.Refusal.{Refusal}
 use Rattle.region.specs.declared.Region.{Region}
 use Rattle.store.specs.Held.{Held, Changed}
 use Rattle.store.proofs.Changes.{changed_none}
-use Rattle.machine.specs.Calls.{Call, Answer, refused}
+use Rattle.machine.specs.Calls.{Call, refused}
 use Rattle.machine.specs.Checks.{Setup}
-use Rattle.machine.specs.Machine.{given, refusal, unless_refused, setup_of}
-use Rattle.sample.specs.Samples.{zero}
-use Rattle.views.specs.View.{Book, fresh, View, size_of, work_at}
-use Rattle.views.specs.Step.{Painting, painting, painting_at, paints, paint_of, paints_at, paint_at, book_taken, refusal_at, given_at, Step, start_refusal_at, Start}
+use Rattle.machine.specs.Machine.{given, refusal, unless_refused}
+use Rattle.views.specs.View.{Book, View, size_of, work_at}
+use Rattle.views.specs.Step.{painting, painting_at, paints, paint_of, paints_at, book_taken, refusal_at, given_at, Step, start_refusal_at, Start}
 
 -- no place is changed
 pub unchanged : (h : Held) (when : ℕ → ℕ → ℕ → Bool) (value : ℕ → ℕ → ℕ → Float) → ((p c r : ℕ) → when p c r ≡ false) → Changed h h when value

@@ -4,13 +4,12 @@ use mathlib.Core.Path.{fun_ext}
 use lib.Ieee.{Float}
 use Rattle.std.proofs.lemmas.List.{get_or_past, get_or-set_same, get_or-set_other, length-set}
 use Rattle.std.proofs.lemmas.Bool.{cases_eq, and_parts, and_left, cond-true, cond-false, eq-eqb, ne_eqb, ltb-true, not-false, both_ways}
-use Rattle.refusal.specs.declared.Refusal.{Refusal}
 use Rattle.sample.specs.Samples.{zero}
 use Rattle.store.specs.Held.{Held, Changed}
 use Rattle.machine.specs.declared.calls.Header.{Header}
 use Rattle.machine.specs.declared.calls.FrameRecord.{FrameRecord}
 use Rattle.machine.specs.Calls.{Canvas, Image, Patch, Stamp, Call, opening, patching, blending, abandoning, clearing}
-use Rattle.machine.specs.Checks.{Setup, Size, Check, fits_store, checks, argument_checks, state_checks, first_broken, frame_info}
+use Rattle.machine.specs.Checks.{Setup, Size, Check, fits_store, checks, argument_checks, state_checks, frame_info}
 use Rattle.machine.specs.Machine.{Frame, on_canvas, drawn, patch_meets, copied, patched, blended, filled, taken, open_number}
 use Rattle.machine.proofs.Wholes.{Unbroken}
 use Rattle.views.specs.View.{Opened, Book, size_of, frame_slot, canvas_at, frame_at, work_at}

@@ -1,5 +1,5 @@
 -- Runs and rectangles of columns and rows, and what a painter may read.
-use Rattle.std.specs.Prelude.{◌≡◌, ℕ, ◌+◌, Bool, ◌&&◌, ◌==◌, nat_le, nat_lt, Float}
+use Rattle.std.specs.Prelude.{◌≡◌, ℕ, Bool, ◌&&◌, ◌==◌, nat_le, nat_lt, Float}
 use Rattle.store.specs.Held.{Held, seen}
 
 -- the columns of one row, from the first up to the last

@@ -1,5 +1,5 @@
 -- The casts change nothing, since every number here fits i32.
-use Rattle.std.proofs.Common.{arith, w32, SFits, rules}
+use Rattle.std.proofs.Common.{w32, SFits, rules}
 use Rattle.std.proofs.lemmas.Int.{to_z-of_z}
 use Rattle.checks.proofs.arguments.patch_refusal.Goals as goal
 

@@ -1,9 +1,8 @@
 -- Below the count a sample is the run's, and past it 0.0, as the place is then outside.
-use Rattle.std.proofs.Common.{◌≡◌, ◌+◌, ◌<◌, ◌≤◌, false, sym, ◌∙◌, ⊎_elim, arith, rules}
+use Rattle.std.proofs.Common.{◌+◌, sym, ◌∙◌, ⊎_elim, arith}
 use Rattle.std.proofs.lemmas.List.{places, get_or-replicate}
 use Rattle.std.proofs.lemmas.Bool.{cases_lt}
 use Rattle.std.proofs.lemmas.Bool.Decides.{nat_tests}
-use Rattle.store.specs.Held.{inside}
 use Rattle.planar.specs.Make.{planar_of}
 use Rattle.store.proofs.Inside.{seen_outside}
 use Rattle.planar.proofs.PlanarStore.load.Goals as goal

@@ -3,7 +3,7 @@ use Rattle.std.proofs.Common.{◌≡◌, ℕ, ◌+◌, ◌<◌, ◌≤◌, Bool,
 use Rattle.std.proofs.lemmas.Bool.{lt-ltb, le-ltb}
 use Rattle.plate.specs.Format.{clamp_at, clamp_broken}
 use Rattle.plate.proofs.checks.clamp_broken.Goals as goal
-use Rattle.plate.proofs.checks.clamp_broken.Goals.{then-byte-at-gt1, else-byte-at-gt1}
+use Rattle.plate.proofs.checks.clamp_broken.Goals.{then-byte_at-gt1, else-byte_at-gt1}
 
 module _ (bytes : List ℕ) (k clamp : ℕ) (e : clamp ≡ clamp_at bytes k) where
   more : (t : Bool) → ltb 1 clamp ≡ t → clamp_broken bytes (k + 1) ≡ (t || clamp_broken bytes k)
@@ -20,6 +20,6 @@ pub loop-k-preserved : goal.loop-k-preserved
 loop-k-preserved c =
     let bytes = c.args.bytes.now in
     elim c.if-byte_at-gt1.branch [
-      | then-byte-at-gt1 w ↦ w.broken-is ∙ broken bytes c.loop-k.k _ c.byte_at.ensures w.if-byte_at-gt1.true
-      | else-byte-at-gt1 w ↦ w.broken-is ∙ c.loop-k.invariant ∙ fine bytes c.loop-k.k _ c.byte_at.ensures w.if-byte_at-gt1.false
+      | then-byte_at-gt1 w ↦ w.broken-is ∙ broken bytes c.loop-k.k _ c.byte_at.ensures w.if-byte_at-gt1.true
+      | else-byte_at-gt1 w ↦ w.broken-is ∙ c.loop-k.invariant ∙ fine bytes c.loop-k.k _ c.byte_at.ensures w.if-byte_at-gt1.false
     ]

@@ -1,7 +1,7 @@
 -- The corner of a region that is not empty is one of its positions.
-use Rattle.std.proofs.Common.{true, false, refl, ⊎_elim}
+use Rattle.std.proofs.Common.{refl, ⊎_elim}
 use Rattle.std.proofs.lemmas.Bool.{cases_Bool, both_ways}
-use Rattle.region.specs.Positions.{is_empty, has}
+use Rattle.region.specs.Positions.{is_empty}
 use Rattle.region.proofs.Regions.{empty_has, first-has}
 use Rattle.region.proofs.Region.is_empty.Goals as goal
 

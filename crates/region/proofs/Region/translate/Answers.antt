@@ -1,8 +1,7 @@
 -- Both axes fit once they are moved, and each moves its positions.
-use Rattle.std.proofs.Common.{◌≡◌, true, ◌&&◌, ◌+ℤ◌, sym, ap, ◌∙◌, w32, SFits, rules}
+use Rattle.std.proofs.Common.{◌&&◌, ◌+ℤ◌, sym, ap, ◌∙◌, w32, SFits, rules}
 use Rattle.std.proofs.lemmas.Int.{to_z-of_z}
 use Rattle.std.proofs.lemmas.Bool.{or_right}
-use Rattle.region.specs.Bounds.{is_span}
 use Rattle.region.specs.Positions.{along, is_empty}
 use Rattle.region.proofs.Regions.{sides, of_spans, along_moved}
 use Rattle.region.proofs.Region.translate.Goals as goal

@@ -1,5 +1,5 @@
 -- Where an axis has no position, neither has the region; else its positions are those of both axes.
-use Rattle.std.proofs.Common.{sym, ◌∙◌, ⊎_elim, arith, w32, SFits, rules}
+use Rattle.std.proofs.Common.{sym, ◌∙◌, ⊎_elim, arith, w32, SFits}
 use Rattle.std.proofs.lemmas.Int.{to_z-of_z}
 use Rattle.std.proofs.lemmas.Bool.{and_left, and_right}
 use Rattle.region.proofs.Regions.{along_none, empty_has, of_spans}

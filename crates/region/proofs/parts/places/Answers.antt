@@ -1,6 +1,5 @@
 -- Both distances are from one coordinate, and the axis ends no earlier than it begins.
-use Rattle.std.proofs.Common.{◌≡◌, pos, ◌+ℤ◌, ◌-ℤ◌, w32, SFits, rules}
-use Rattle.std.specs.Int.{int_max}
+use Rattle.std.proofs.Common.{w32, SFits, rules}
 use Rattle.std.proofs.lemmas.Int.{to_z-of_z}
 use Rattle.region.proofs.Cuts.{places_along, places_order}
 use Rattle.region.proofs.parts.places.Goals as goal
