@@ -43,6 +43,6 @@ returns g c =
     let across = simp to_z-of_z at c.in-Some.ensures in
     let down = simp to_z-of_z at c.in-Some-steps_on.ensures in
     λ k h.
-    simp to_z-of_z at (c.fill-2.ensures k h)
+    simp to_z-of_z at (c.fill_far.ensures k h)
     ∙ ap (λ y. value_at m c.args.channel (c.in-Some.x +ℤ pos k) y) down
     ∙ ap (λ x. value_at m c.args.channel x (c.args.y +ℤ pos c.args.row)) (ap (λ x. x +ℤ pos k) across ∙ on c.args.x c.args.column k)

@@ -19,7 +19,7 @@ overflow_add-self-2 c =
 pub invariant_of-self : goal.invariant_of-self
 invariant_of-self c =
     let s = sound _ _ c.in_ok-checked.ensures in
-    (omega arith, tt)
+    record { fewer = omega arith }
 
 pub of-plate-requires : goal.of-plate-requires
 of-plate-requires c =
