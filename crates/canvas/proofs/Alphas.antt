@@ -1,6 +1,5 @@
 -- A formula reads no alpha but the one that its record names: with any other in that place where it reads none, it makes the same.
-use Rattle.std.proofs.Common.{◌≡◌, ℕ, ◌+◌, Bool, true, false, List, is_some, Some, None, Option, sym, refl, ap, ◌∙◌}
-use lib.Ieee.{Float}
+use Rattle.std.proofs.Common.{◌≡◌, ℕ, ◌+◌, Bool, true, false, List, is_some, Some, None, Option, refl}
 use Rattle.std.proofs.lemmas.Bool.{true≢false, false≢true}
 use Rattle.picture.specs.Meaning.{Meaning}
 use Rattle.store.specs.Held.{Held}
@@ -13,7 +12,6 @@ use Rattle.blend.specs.declared.records.BlendMode.{BlendMode}
 use Rattle.blend.specs.Tables.{frame_table, patch_table, alpha_of, formula}
 use Rattle.machine.specs.Machine.{by_patch}
 use Rattle.drawing.specs.declared.layers.Layer.{Layer}
-use Rattle.drawing.specs.declared.strokes.Stroke.{Stroke}
 use Rattle.drawing.specs.Layers.{layer_operands, layer_at, stroke_at, stroke_or}
 use Rattle.canvas.specs.Plans.{stroke_by}
 

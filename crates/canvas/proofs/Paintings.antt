@@ -1,18 +1,18 @@
 -- What open, patch and blend draw are the paintings of the definition.
-use Rattle.std.proofs.Common.{◌≡◌, ℕ, ◌+◌, ◌-◌, ◌*◌, ◌<◌, Bool, true, false, cond, not, ◌&&◌, ◌||◌, eqb, ltb, leb, List, map, get_or, ℤ, pos, ◌+ℤ◌, ◌-ℤ◌, is_some, Some, None, Option, sym, refl, ap, ◌∙◌, ⊎_elim, arith}
+use Rattle.std.proofs.Common.{◌≡◌, ℕ, ◌+◌, Bool, true, false, cond, not, ◌&&◌, ◌||◌, eqb, ltb, leb, List, map, get_or, ℤ, pos, ◌+ℤ◌, ◌-ℤ◌, is_some, Some, None, Option, sym, refl, ap, ◌∙◌, ⊎_elim, arith}
 use lib.Ieee.{Float}
 use Rattle.std.proofs.lemmas.Int.{ints}
 use Rattle.std.proofs.lemmas.Bool.Decides.{nat_tests}
-use Rattle.std.proofs.lemmas.Bool.{and_parts, and_from, and_left, and_right, and_cases, both_ways, cases_Bool, false≢true, true≢false, not-true, not_from_true, not_from_false, or_cases, or_from, or_parts, eqb-true, cond-true, cond-false, lt-ltb, ltb-true}
+use Rattle.std.proofs.lemmas.Bool.{and_parts, and_from, and_left, and_right, both_ways, false≢true, true≢false, not-true, not_from_true, not_from_false, or_cases, or_from, or_parts, eqb-true, cond-true, cond-false, lt-ltb}
 use Rattle.sample.specs.Samples.{zero}
 use Rattle.region.specs.declared.Region.{Region}
 use Rattle.region.specs.Positions.{along, has}
 use Rattle.picture.specs.Meaning.{Meaning, value_at}
-use Rattle.store.specs.Held.{Held, inside, seen, Changed}
+use Rattle.store.specs.Held.{Held, seen, Changed}
 use Rattle.machine.specs.declared.calls.Header.{Header}
 use Rattle.machine.specs.declared.calls.PatchRecord.{PatchRecord}
 use Rattle.machine.specs.declared.calls.Rectangle.{Rectangle}
-use Rattle.machine.specs.Calls.{Image, Patch}
+use Rattle.machine.specs.Calls.{Patch}
 use Rattle.machine.specs.Checks.{Setup, channels_of, patch_info, record_of}
 use Rattle.machine.specs.Machine.{covered, drawn, on_canvas, patch_meets, canvas_of, placed, copied, patched, blended, by_patch, operands, no_patch_info}
 use Rattle.blend.specs.declared.records.BlendMode.{BlendMode}
@@ -21,10 +21,10 @@ use Rattle.blend.specs.declared.records.BlendMode.TheVariants.{Skip}
 use Rattle.blend.specs.declared.records.BlendingInfo.{BlendingInfo}
 use Rattle.blend.specs.Modes.{has_extra_lem}
 use Rattle.blend.specs.Tables.{frame_mode, patch_mode, is_own, formula}
-use Rattle.views.specs.View.{Opened, image_of, frame_in, slots_in, frame_slot, plane_of}
+use Rattle.views.specs.View.{Opened, image_of, frame_in, slots_in, frame_slot}
 use Rattle.views.specs.Step.{opens, patches, fills, Painted}
 use Rattle.drawing.specs.declared.layers.Layer.{Layer}
-use Rattle.drawing.specs.declared.layers.Layer.TheVariants.{Blank, Placed}
+use Rattle.drawing.specs.declared.layers.Layer.TheVariants.{Blank}
 use Rattle.drawing.specs.declared.strokes.Stroke.{Stroke}
 use Rattle.drawing.specs.declared.strokes.Drawing.{Drawing}
 use Rattle.drawing.specs.Rectangles.{in_area}
@@ -33,7 +33,7 @@ use Rattle.drawing.specs.Layers.{layer_at, layer_operands, stroke_or, touches, d
 use Rattle.canvas.specs.Plans.{Plan, Planned, slot_layer, source_layer, sheet_layer, open_plan, patch_plan, info_of, blend_plan, keep_plan, stays}
 use Rattle.canvas.proofs.Alphas.{frame_stroke, patch_stroke, patch_keeps}
 use Rattle.canvas.proofs.Planes.{own, channel_at, channel_below, plane_back, touch_plan, drawn_plan, painted_by}
-use Rattle.canvas.proofs.Samples.{across, down, slot-shows, source_shows, frame-shows}
+use Rattle.canvas.proofs.Samples.{across, down, source_shows, frame-shows}
 
 -- a picture's position, counted from the first column or from the canvas's own coordinates
 placed_at : (corner origin place from : ℤ) (c : ℕ) → (((corner -ℤ origin) +ℤ (from -ℤ place)) +ℤ pos c) ≡ (((corner +ℤ pos c) -ℤ (origin +ℤ place)) +ℤ from)

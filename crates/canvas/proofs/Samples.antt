@@ -5,7 +5,6 @@ use Rattle.std.proofs.lemmas.Int.{ints}
 use Rattle.sample.specs.Samples.{zero}
 use Rattle.region.specs.declared.Region.{Region}
 use Rattle.region.specs.Positions.{has}
-use Rattle.picture.specs.Shapes.{column_of, row_of}
 use Rattle.picture.specs.Meaning.{Meaning}
 use Rattle.store.specs.Held.{Held, seen}
 use Rattle.machine.specs.declared.calls.Header.{Header}

@@ -5,7 +5,7 @@ use Rattle.std.proofs.lemmas.List.{get_or-drop, get_or-take}
 use Rattle.std.proofs.lemmas.Bool.{cases_eq, cond_both, and_from, and_parts, or_right, eq-eqb, ne_eqb, le-leb, lt-ltb, eqb-true, leb-true, ltb-true}
 use Rattle.std.proofs.lemmas.Bool.Decides.{nat_tests}
 use Rattle.store.specs.Held.{Held, inside, in_run, run_inside_lem, Changed}
-use Rattle.store.proofs.Changes.{changed_then, changed_like, inside_kept, run_kept}
+use Rattle.store.proofs.Changes.{changed_then, changed_like, run_kept}
 use Rattle.store.proofs.Inside.{inside_parts}
 use Rattle.drawing.specs.declared.strokes.Drawing.{Drawing}
 use Rattle.picture.specs.Meaning.{Meaning}

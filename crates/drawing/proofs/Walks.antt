@@ -1,6 +1,5 @@
 -- One part of a walk after another: what is made in the second part is made of samples that the first has not touched.
 use Rattle.std.proofs.Common.{◌≡◌, ℕ, ◌+◌, ◌-◌, Bool, true, false, cond, ◌&&◌, ◌||◌, ltb, Some, None, Option, refl, ap, ◌∙◌}
-use lib.Ieee.{Float}
 use Rattle.std.proofs.lemmas.Bool.{and_parts, and_right, cond_both, cond-false}
 use Rattle.sample.specs.Samples.{zero}
 use Rattle.picture.specs.Meaning.{Meaning}

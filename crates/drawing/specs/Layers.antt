@@ -2,7 +2,6 @@
 use Rattle.std.specs.Prelude.{ℕ, ◌+◌, ◌-◌, Bool, cond, ◌&&◌, pos, ◌+ℤ◌, is_some, Some, None, Option, nat_le, nat_lt, slice_index_or, Float}
 use Rattle.sample.specs.Samples.{zero}
 use Rattle.formulas.specs.declared.Operands.{Operands}
-use Rattle.blend.specs.declared.records.BlendMode.{BlendMode}
 use Rattle.blend.specs.Tables.{alpha_read, formula}
 use Rattle.picture.specs.Meaning.{Meaning, value_at}
 use Rattle.store.specs.Held.{Held, seen}

@@ -1,10 +1,10 @@
 -- What is known of a plate that is not refused.
-use Rattle.std.proofs.Common.{◌≡◌, ℕ, ◌<◌, ◌≤◌, Bool, true, false, cond, not, ◌&&◌, eqb, leb, List, length, Some, None, Option, refl, arith}
-use Rattle.std.proofs.lemmas.Bool.{and_parts, leb-true, eqb-true}
+use Rattle.std.proofs.Common.{◌≡◌, ℕ, ◌<◌, ◌≤◌, Bool, true, false, cond, not, leb, List, length, Some, None, Option, refl, arith}
+use Rattle.std.proofs.lemmas.Bool.{leb-true}
 use Rattle.std.proofs.lemmas.Bool.Decides.{nat_tests}
 use Rattle.refusal.specs.declared.Refusal.{Refusal}
 use Rattle.machine.specs.Checks.{first_broken, frame_allowed}
-use Rattle.plate.specs.Format.{Alike, colors_of, extras_of, header_of, length_of, header_sound, channels_allowed, formulas_hold, content_allowed, plate_checks}
+use Rattle.plate.specs.Format.{Alike, colors_of, extras_of, header_of, length_of, header_sound, channels_allowed, formulas_hold, plate_checks}
 
 pub record Sound (bytes : List ℕ) : Type 0 where
   pub colors : colors_of bytes ≤ 3

@@ -1,5 +1,5 @@
 -- What a slot of a store shows is what the definition shows.
-use Rattle.std.proofs.Common.{◌≡◌, ℕ, ◌+◌, ◌*◌, ◌<◌, ◌≤◌, true, false, cond, ◌&&◌, ltb, get_or, ℤ, Some, None, sym, refl, ap, ◌∙◌}
+use Rattle.std.proofs.Common.{◌≡◌, ℕ, ◌+◌, ◌*◌, ◌<◌, ◌≤◌, true, false, cond, ltb, get_or, ℤ, Some, None, sym, ap, ◌∙◌}
 use lib.Ieee.{Float}
 use Rattle.std.proofs.lemmas.Bool.{and_from, and_left, and_right, cond-true, cond-false, lt-ltb, le-ltb}
 use Rattle.sample.specs.Samples.{zero}

@@ -1,14 +1,13 @@
 -- A start: refused, or taken with the terms it was handed.
-use Rattle.std.proofs.Common.{◌≡◌, ℕ, ◌≤◌, Bool, true, false, ◌&&◌, ◌||◌, eqb, leb, ◌⊎◌, List, length, is_some, Some, None, Option, sym, refl, ap, ◌∙◌, ⊎_elim, arith}
+use Rattle.std.proofs.Common.{◌≡◌, ℕ, ◌≤◌, true, false, ◌&&◌, ◌||◌, eqb, leb, ◌⊎◌, List, length, is_some, Some, None, Option, sym, refl, ap, ⊎_elim, arith}
 use Rattle.std.proofs.lemmas.Bool.{and_parts, and_from, or_cases, not-false, eqb-true, le-leb, true≢false, false≢true}
-use Rattle.refusal.specs.declared.Refusal.{Refusal}
 use Rattle.refusal.specs.declared.Refusal.TheVariants.{AlreadyStarted}
 use Rattle.region.specs.declared.Region.{Region}
 use Rattle.store.specs.Held.{Held}
 use Rattle.machine.specs.Checks.{Size, start_checks}
 use Rattle.machine.specs.Machine.{setup_of, start_refusal}
 use Rattle.machine.proofs.Wholes.{none_unbroken}
-use Rattle.views.specs.View.{Book, View, fresh, size_of}
+use Rattle.views.specs.View.{Book, fresh, size_of}
 use Rattle.views.specs.Step.{start_refusal_at, Start}
 use Rattle.views.proofs.Steps.{unchanged}
 use Rattle.canvas.specs.declared.terms.Terms.{Terms}

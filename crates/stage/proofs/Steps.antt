@@ -2,7 +2,7 @@
 use Rattle.std.proofs.Common.{◌≡◌, Some, None, Option, sym, refl, ap, ◌∙◌, subst}
 use Rattle.refusal.specs.declared.Refusal.{Refusal}
 use Rattle.store.specs.Held.{Held, Changed}
-use Rattle.machine.specs.Calls.{Call, Answer, refused}
+use Rattle.machine.specs.Calls.{Call, refused}
 use Rattle.machine.specs.Checks.{Setup}
 use Rattle.machine.specs.Machine.{given}
 use Rattle.views.specs.View.{Book, View, work_at}

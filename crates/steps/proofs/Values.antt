@@ -5,7 +5,6 @@ use Rattle.std.proofs.lemmas.Bool.{and_left, and_right, cond-false}
 use Rattle.sample.specs.Samples.{zero}
 use Rattle.region.specs.Bounds.{is_span}
 use Rattle.region.specs.Positions.{along}
-use Rattle.region.specs.declared.Region.{Region}
 use Rattle.region.proofs.Regions.{spans}
 use Rattle.picture.specs.Meaning.{Meaning, value_at}
 use Rattle.steps.specs.Gaps.{is_coordinate}

@@ -1,5 +1,5 @@
 -- What stands in the part stands as far on in the whole.
-use Rattle.std.proofs.Common.{◌≡◌, ℕ, ◌+◌, List, [], ◌∷◌, drop, ap, ◌∙◌, add-zero}
+use Rattle.std.proofs.Common.{◌≡◌, ℕ, ◌+◌, List, drop, ap, ◌∙◌, add-zero}
 use Rattle.std.proofs.lemmas.List.{get_or-drop}
 use Rattle.byte_fields.specs.Words.{byte_at}
 use Rattle.byte_fields.proofs.four_at.Goals as goal

@@ -1,8 +1,5 @@
 -- Four rectangles, apart from each other, that are the whole without the part.
-use Rattle.std.proofs.Common.{◌≡◌, ℕ, ◌≤◌, min, Bool, not, ◌&&◌, ◌||◌, refl, ap, arith}
-use Rattle.std.proofs.lemmas.Bool.Decides.{nat_tests}
-use Rattle.store.proofs.Changes.{changed_like}
-use Rattle.drawing.specs.Layers.{touches, drawn_at}
+use Rattle.std.proofs.Common.{◌≡◌, min, not, ◌&&◌, refl, arith}
 use Rattle.drawing.specs.Rectangles.{in_area}
 use Rattle.drawing.proofs.Rings.{above, before, beside, left_apart, right_apart, below_apart, ring}
 use Rattle.drawing.proofs.Walks.{walked_on}

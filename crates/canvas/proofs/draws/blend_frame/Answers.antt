@@ -1,9 +1,7 @@
 -- The frame is drawn on the canvas under its covered part, and the sources are kept around it.
-use Rattle.std.proofs.Common.{◌≡◌, not, ◌&&◌, ◌-ℤ◌, sym, refl, ap, ◌∙◌, subst}
+use Rattle.std.proofs.Common.{◌&&◌, ◌-ℤ◌, ap, ◌∙◌}
 use Rattle.region.specs.Positions.{has}
 use Rattle.picture.specs.Meaning.{blank}
-use Rattle.store.specs.Held.{Changed}
-use Rattle.drawing.specs.Layers.{touches, drawn_at}
 use Rattle.drawing.specs.Rectangles.{in_area}
 use Rattle.canvas.specs.Fields.{setup_from, opened_from}
 use Rattle.canvas.proofs.Paintings.{frame-blended}

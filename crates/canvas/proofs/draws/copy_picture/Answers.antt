@@ -1,5 +1,5 @@
 -- The part is the canvas under the covered part of the frame.
-use Rattle.std.proofs.Common.{◌≡◌, ℕ, ◌&&◌, ◌-ℤ◌, sym, refl, ap, ◌∙◌}
+use Rattle.std.proofs.Common.{◌&&◌, ◌-ℤ◌, ap, ◌∙◌}
 use Rattle.region.specs.declared.Region.{Region}
 use Rattle.region.specs.Positions.{has}
 use Rattle.machine.specs.Machine.{covered}

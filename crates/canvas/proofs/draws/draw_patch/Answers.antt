@@ -1,5 +1,5 @@
 -- The part is the canvas under what the frame's covered part and the patch have in common.
-use Rattle.std.proofs.Common.{◌≡◌, ℕ, ◌&&◌, ◌-ℤ◌, sym, refl, ap, ◌∙◌, w32, SFits, rules}
+use Rattle.std.proofs.Common.{◌&&◌, ◌-ℤ◌, ap, ◌∙◌, w32, SFits, rules}
 use Rattle.std.proofs.lemmas.Int.{to_z-of_z}
 use Rattle.region.specs.Positions.{along, has}
 use Rattle.drawing.specs.Rectangles.{in_area}

@@ -1,5 +1,5 @@
 -- Both coordinates by their own offset.
-use Rattle.std.proofs.Common.{◌≡◌, ap, ◌∙◌, w32, w64, SFits, rules}
+use Rattle.std.proofs.Common.{ap, ◌∙◌, w32, w64, SFits, rules}
 use Rattle.std.proofs.lemmas.Int.{to_z-of_z}
 use Rattle.drawing.specs.declared.layers.Layer.TheVariants.{Placed}
 use Rattle.canvas.specs.Plans.{offset_of}

@@ -1,5 +1,5 @@
 -- One channel more.
-use Rattle.std.proofs.Common.{◌≡◌, ℕ, ◌+◌, cond, ltb, length, get_or, set, None, sym, ap, ◌∙◌, ⊎_elim, arith, length-set}
+use Rattle.std.proofs.Common.{◌≡◌, ◌+◌, cond, ltb, get_or, set, None, sym, ap, ◌∙◌, ⊎_elim, arith, length-set}
 use Rattle.std.proofs.lemmas.List.{get_or-set_same, get_or-set_other}
 use Rattle.std.proofs.lemmas.Bool.{cases_eq, cond-true, lt-ltb}
 use Rattle.std.proofs.lemmas.Bool.Decides.{nat_tests}

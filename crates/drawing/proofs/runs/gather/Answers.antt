@@ -1,8 +1,8 @@
 -- One channel more, if it has a stroke.
-use Rattle.std.proofs.Common.{◌≡◌, ℕ, ◌+◌, ◌-◌, ◌*◌, ◌≤◌, true, false, length, take, drop, is_some, sym, refl, ap, ◌∙◌, subst, ⊎_elim, arith, rules}
+use Rattle.std.proofs.Common.{◌≡◌, ℕ, ◌+◌, true, is_some, sym, ap, ◌∙◌, arith}
 use lib.Ieee.{Float}
 use Rattle.std.proofs.lemmas.List.{length-take, length-drop}
-use Rattle.std.proofs.lemmas.Bool.{cases_eq, both_ways}
+use Rattle.std.proofs.lemmas.Bool.{both_ways}
 use Rattle.drawing.specs.Layers.{stroke_of, stroke_or}
 use Rattle.drawing.specs.Runs.{room_at}
 use Rattle.drawing.proofs.Rooms.{room_more, room_same}

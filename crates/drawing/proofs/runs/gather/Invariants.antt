@@ -1,5 +1,4 @@
 -- The runs of the channels before are made.
-use Rattle.std.proofs.Common.{◌≡◌, length}
 use Rattle.drawing.specs.Runs.{MadeBelow}
 use Rattle.drawing.proofs.runs.gather.Given as goal
 

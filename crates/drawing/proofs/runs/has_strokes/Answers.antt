@@ -1,7 +1,6 @@
 -- One channel more; with none left, no plane is touched.
-use Rattle.std.proofs.Common.{◌≡◌, ℕ, ◌-◌, ◌<◌, true, false, ◌&&◌, ltb, leb, is_some, sym, ap, ◌∙◌, ⊎_elim, arith, below_more}
+use Rattle.std.proofs.Common.{◌-◌, ◌<◌, ◌&&◌, ltb, leb, is_some, sym, ap, ◌∙◌, ⊎_elim, arith, below_more}
 use Rattle.std.proofs.lemmas.Bool.{and_left, and_right, cases_lt, le-ltb}
-use Rattle.drawing.specs.Layers.{stroke_of}
 use Rattle.drawing.proofs.runs.has_strokes.Goals as goal
 
 pub loop-channel-preserved : goal.loop-channel-preserved

@@ -1,5 +1,5 @@
 -- One channel more, if it has a stroke.
-use Rattle.std.proofs.Common.{◌≡◌, ◌+◌, ◌-◌, ◌*◌, ◌&&◌, length, take, drop, is_some, sym, refl, ap, ◌∙◌, arith}
+use Rattle.std.proofs.Common.{◌+◌, ◌-◌, ◌*◌, ◌&&◌, take, drop, is_some, sym, refl, ap, ◌∙◌, arith}
 use Rattle.std.proofs.lemmas.List.{length-take, length-drop}
 use Rattle.store.proofs.Changes.{changed_like}
 use Rattle.drawing.specs.Rectangles.{in_line}

@@ -1,5 +1,5 @@
 -- A position has a column and a row.
-use Rattle.std.proofs.Common.{◌≡◌, sym, refl, ap, ◌∙◌, w32, w64, SFits, rules}
+use Rattle.std.proofs.Common.{sym, ap, ◌∙◌, w32, w64, SFits, rules}
 use Rattle.std.proofs.lemmas.Int.{to_z-of_z}
 use Rattle.std.proofs.lemmas.Bool.{and_from}
 use Rattle.region.specs.Positions.{along}

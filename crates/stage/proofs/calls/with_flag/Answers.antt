@@ -1,5 +1,5 @@
 -- There is no slot past the last.
-use Rattle.std.proofs.Common.{◌≡◌, ◌≤◌, length, sym, arith, rules}
+use Rattle.std.proofs.Common.{◌≡◌, length, sym, arith, rules}
 use Rattle.std.proofs.lemmas.List.{set_past}
 use Rattle.stage.proofs.calls.with_flag.Goals as goal
 

@@ -1,7 +1,6 @@
 -- The formula of the channel's record, from the frame as it stands.
-use Rattle.std.proofs.Common.{◌≡◌, ◌-◌, take, Some, sym, refl, ap, ◌∙◌, arith}
+use Rattle.std.proofs.Common.{◌≡◌, ◌-◌, take, Some, ap, ◌∙◌, arith}
 use Rattle.blend.specs.Tables.{patch_mode}
-use Rattle.drawing.specs.declared.layers.Layer.{Layer}
 use Rattle.canvas.specs.Fields.{setup_from}
 use Rattle.canvas.specs.Plans.{slot_layer, stroke_by}
 use Rattle.canvas.proofs.plans.PatchingPlan.stroke.Goals as goal

@@ -1,7 +1,6 @@
 -- A plate that is not refused has some bytes and lies within the input.
-use Rattle.std.proofs.Common.{◌≡◌, ◌+◌, ◌-◌, ◌<◌, ◌≤◌, length, ap, ◌∙◌, arith, length-drop}
-use Rattle.plate.specs.Format.{length_of}
-use Rattle.plate.proofs.Sound.{Sound, sound}
+use Rattle.std.proofs.Common.{length, ap, ◌∙◌, arith, length-drop}
+use Rattle.plate.proofs.Sound.{sound}
 use Rattle.plate.proofs.reader.Reader.next.Goals as goal
 
 pub overflow_add-self : goal.overflow_add-self

@@ -1,5 +1,5 @@
 -- Refused, nothing has changed; taken, no frame is open.
-use Rattle.std.proofs.Common.{◌≡◌, None, refl}
+use Rattle.std.proofs.Common.{None, refl}
 use Rattle.machine.specs.Calls.{abandoning}
 use Rattle.canvas.specs.Fields.{setup_from}
 use Rattle.stage.specs.Stages.{stamp_of}

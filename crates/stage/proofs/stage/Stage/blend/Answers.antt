@@ -1,5 +1,5 @@
 -- Refused, nothing has changed; taken, the target is filled, the frame is spent and its number is the last.
-use Rattle.std.proofs.Common.{◌≡◌, Some, None, sym, refl, ap, ◌∙◌}
+use Rattle.std.proofs.Common.{Some, None, sym, refl, ap, ◌∙◌}
 use Rattle.machine.specs.Calls.{blending}
 use Rattle.views.specs.View.{frame_in, frame_at, slots_in}
 use Rattle.views.specs.Step.{fills, on_frame, book_blended}

@@ -1,5 +1,5 @@
 -- Refused, nothing has changed; taken, the slot's flag is down.
-use Rattle.std.proofs.Common.{◌≡◌, None, sym, refl, ap, ◌∙◌}
+use Rattle.std.proofs.Common.{None, refl}
 use Rattle.machine.specs.Calls.{clearing}
 use Rattle.canvas.specs.Fields.{setup_from}
 use Rattle.stage.specs.Stages.{opened_in}

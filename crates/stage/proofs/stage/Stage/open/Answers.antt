@@ -1,5 +1,5 @@
 -- Refused, nothing has changed; taken, the picture is copied and the frame is kept.
-use Rattle.std.proofs.Common.{◌≡◌, map, Some, sym, refl, ap, ◌∙◌}
+use Rattle.std.proofs.Common.{◌≡◌, map, Some, refl, ◌∙◌}
 use Rattle.std.proofs.lemmas.Bool.{both_ways}
 use Rattle.machine.specs.Calls.{opening}
 use Rattle.machine.specs.Checks.{frame_info}

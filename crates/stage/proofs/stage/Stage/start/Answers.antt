@@ -1,7 +1,6 @@
 -- Started already, refused, or taken.
-use Rattle.std.proofs.Common.{◌≡◌, Some, None, Option, sym, refl, ap, ◌∙◌}
+use Rattle.std.proofs.Common.{◌≡◌, sym, ap, ◌∙◌}
 use Rattle.std.proofs.lemmas.Bool.{both_ways}
-use Rattle.refusal.specs.declared.Refusal.{Refusal}
 use Rattle.refusal.specs.declared.Refusal.TheVariants.{AlreadyStarted}
 use Rattle.machine.specs.Checks.{Size}
 use Rattle.machine.specs.Machine.{start_refusal}

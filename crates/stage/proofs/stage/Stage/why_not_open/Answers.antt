@@ -1,5 +1,5 @@
 -- The arguments first, and then the state.
-use Rattle.std.proofs.Common.{◌≡◌, sym, ap, ◌∙◌}
+use Rattle.std.proofs.Common.{sym, ◌∙◌}
 use Rattle.machine.specs.Checks.{first_broken, open_checks, open_state, fits_store}
 use Rattle.machine.specs.Machine.{open_number}
 use Rattle.views.specs.View.{image_of, size_of, frame_at}

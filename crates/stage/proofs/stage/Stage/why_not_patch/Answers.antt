@@ -1,5 +1,5 @@
 -- The arguments first, and then the state, as for blend.
-use Rattle.std.proofs.Common.{◌≡◌, List, sym, ap, ◌∙◌, w32, SFits}
+use Rattle.std.proofs.Common.{sym, ◌∙◌, w32, SFits}
 use Rattle.std.proofs.lemmas.Int.{to_z-of_z}
 use Rattle.machine.specs.Calls.{Patch}
 use Rattle.machine.specs.Checks.{patch_checks, draw_state, fits_store}
