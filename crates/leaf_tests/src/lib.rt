@@ -2,6 +2,8 @@
 #![tactic(auto)]
 
 #[cfg(test)]
+mod far;
+#[cfg(test)]
 mod kernels;
 #[cfg(test)]
 mod lay_texts;
