@@ -1,4 +1,4 @@
-// The one walk over a rectangle of a store, for all drawing: row by row, in runs of a row.
+// The walk over a rectangle of a store by which a stage draws: row by row, in runs of a row.
 // Promise: every place of the rectangle, in each plane that the drawing touches, becomes what the drawing makes of the samples that stood in its
 // column and row before the walk, all channels read before any is written; every other place stays.
 // What a drawing makes is specs/Layers.antt, rectangles are specs/Rectangles.antt.

@@ -1,5 +1,6 @@
 -- What the arguments decide, and then what the state decides, is the definition's refusal.
-use Rattle.std.proofs.Common.{◌≡◌, ℕ, suc, ◌≤◌, Bool, true, false, ◌&&◌, ltb, leb, List, [], ◌∷◌, ◌++◌, length, take, is_some, None, Option, sym, ap, ◌∙◌, arith}
+use Rattle.std.proofs.Common.{◌≡◌, ℕ, suc, ◌≤◌, Bool, true, false, ◌&&◌, ltb, leb, List, [], ◌∷◌, ◌++◌, length, take, is_some, Some, None, Option, sym, ap, ◌∙◌, arith}
+use Rattle.std.specs.Option.{option_or}
 use Rattle.std.proofs.lemmas.List.{length-take}
 use Rattle.std.proofs.lemmas.Bool.{and_parts, and_from, not-false, eqb-true, le-leb, true≢false}
 use Rattle.refusal.specs.declared.Refusal.{Refusal}
@@ -15,12 +16,9 @@ use Rattle.canvas.specs.declared.terms.Terms.{Terms}
 use Rattle.canvas.specs.Fields.{setup_from}
 use Rattle.machine.proofs.Firsts.{first_some, first_none}
 
-module _ (cs ds : List Check) (asked : Option Refusal) (known : asked ≡ first_broken cs) where
-  pub by_arguments : is_some asked ≡ true → asked ≡ first_broken (cs ++ ds)
-  by_arguments some = known ∙ first_some cs ds (sym (ap is_some known) ∙ some)
-
-  pub by_state : (left : Option Refusal) → is_some asked ≡ false → left ≡ first_broken ds → left ≡ first_broken (cs ++ ds)
-  by_state left none e = e ∙ first_none cs ds (sym (ap is_some known) ∙ none)
+pub in_turn : (cs ds : List Check) (asked left : Option Refusal) → asked ≡ first_broken cs → left ≡ first_broken ds → option_or asked left ≡ first_broken (cs ++ ds)
+in_turn cs ds (Some r) left e f = e ∙ first_some cs ds (sym (ap is_some e))
+in_turn cs ds None left e f = f ∙ first_none cs ds (sym (ap is_some e))
 
 -- a frame that is opened has nine records at the most, and a slot for its target
 pub open_fits :

@@ -97,10 +97,8 @@ impl<S: Store> Stage<S> {
         ensures { result ≡ refusal_in S.Store.held self.now terms.now (opening header records.now (image_of (P.Picture.meaning picture.now))) }
     {
         let asked = open_arguments(terms, header, records, picture);
-        if asked.is_some() {
-            return asked;
-        }
-        open_state(self.current(), self.last, header.number, self.fits(terms))
+        let state = open_state(self.current(), self.last, header.number, self.fits(terms));
+        asked.or(state)
     }
 
     pub(crate) fn why_not_patch<P: Picture>(
@@ -116,10 +114,7 @@ impl<S: Store> Stage<S> {
         ensures { result ≡ refusal_in S.Store.held self.now terms.now (patching (stamp_of ticket.now) (record { rectangle = rectangle; x = x; y = y; records = records.now; sheet = image_of (P.Picture.meaning sheet.now) })) }
     {
         let asked = patch_arguments(terms, rectangle, x, y, records, sheet);
-        if asked.is_some() {
-            return asked;
-        }
-        self.why_not_draw(terms, ticket)
+        asked.or(self.why_not_draw(terms, ticket))
     }
 
     // What patch and blend ask of the ticket and of the store.

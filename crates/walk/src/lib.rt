@@ -1,4 +1,4 @@
-// The one walk over a rectangle of a store, for all drawing: row by row, in runs of a row.
+// A walk over a rectangle of a store, for any painter of one run: row by row, in runs of a row. The stage draws by crate `drawing`.
 // Promise: what a painter does to a run is done to the whole rectangle, each place from the samples that stood there before the walk.
 // The words are specs/Rectangles.antt.
 #![tactic(auto)]

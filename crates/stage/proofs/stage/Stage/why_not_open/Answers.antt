@@ -1,28 +1,19 @@
 -- The arguments first, and then the state.
-use Rattle.std.proofs.Common.{sym, ◌∙◌}
+use Rattle.std.proofs.Common.{◌∙◌}
 use Rattle.machine.specs.Checks.{first_broken, open_checks, open_state, fits_store}
 use Rattle.machine.specs.Machine.{open_number}
 use Rattle.views.specs.View.{image_of, size_of, frame_at}
 use Rattle.canvas.specs.Fields.{setup_from}
 use Rattle.stage.specs.Stages.{opened_in}
-use Rattle.stage.proofs.Refusals.{by_arguments, by_state}
+use Rattle.stage.proofs.Refusals.{in_turn}
 use Rattle.stage.proofs.stage.Stage.why_not_open.Goals as goal
-
-pub returns-then-is_some : goal.returns-then-is_some
-returns-then-is_some g c =
-    let s = setup_from c.args.terms.now in
-    let stage = c.args.self.now in
-    let h = g.S.Store.held stage.store in
-    by_arguments (open_checks s c.args.header c.args.records.now (image_of (g.P.Picture.meaning c.args.picture.now)))
-    (open_state (open_number (frame_at s h (opened_in stage.opened))) stage.last c.args.header.number (fits_store (size_of h) s)) c.open_arguments-asked.result
-    c.open_arguments-asked.ensures (sym c.is_some.ensures ∙ c.if-is_some.true)
 
 pub returns : goal.returns
 returns g c =
     let s = setup_from c.args.terms.now in
     let stage = c.args.self.now in
     let h = g.S.Store.held stage.store in
-    by_state (open_checks s c.args.header c.args.records.now (image_of (g.P.Picture.meaning c.args.picture.now)))
-    (open_state (open_number (frame_at s h (opened_in stage.opened))) stage.last c.args.header.number (fits_store (size_of h) s)) c.open_arguments-asked.result
-    c.open_arguments-asked.ensures c.open_state.result (sym c.is_some.ensures ∙ c.if-is_some.false)
-    (c.open_state.ensures ∙ (λ i. first_broken (open_state (c.current.ensures s h i) stage.last c.args.header.number (c.fits.ensures i))))
+    c.or.ensures
+    ∙ in_turn (open_checks s c.args.header c.args.records.now (image_of (g.P.Picture.meaning c.args.picture.now)))
+    (open_state (open_number (frame_at s h (opened_in stage.opened))) stage.last c.args.header.number (fits_store (size_of h) s)) c.open_arguments-asked.result c.open_state-state.result
+    c.open_arguments-asked.ensures (c.open_state-state.ensures ∙ (λ i. first_broken (open_state (c.current.ensures s h i) stage.last c.args.header.number (c.fits.ensures i))))
