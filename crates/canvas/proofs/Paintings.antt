@@ -27,7 +27,7 @@ use Rattle.drawing.specs.declared.layers.Layer.{Layer}
 use Rattle.drawing.specs.declared.layers.Layer.TheVariants.{Blank}
 use Rattle.drawing.specs.declared.strokes.Stroke.{Stroke}
 use Rattle.drawing.specs.declared.strokes.Drawing.{Drawing}
-use Rattle.drawing.specs.Rectangles.{in_area}
+use Rattle.walk.specs.Rectangles.{in_area}
 use Rattle.drawing.proofs.Walks.{walked_then}
 use Rattle.drawing.specs.Layers.{layer_at, layer_operands, stroke_or, touches, drawn_at}
 use Rattle.canvas.specs.Plans.{Plan, Planned, slot_layer, source_layer, sheet_layer, open_plan, patch_plan, info_of, blend_plan, keep_plan, stays}

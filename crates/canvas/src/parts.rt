@@ -2,7 +2,7 @@
 ghost use Rattle.std.specs.Prelude.{◌≡◌, ℕ, ◌&&◌, ℤ, pos, ◌+ℤ◌, ◌-ℤ◌};
 ghost use Rattle.region.specs.Positions.{has};
 ghost use Rattle.machine.specs.Machine.{covered};
-ghost use Rattle.drawing.specs.Rectangles.{in_area};
+ghost use Rattle.walk.specs.Rectangles.{in_area};
 ghost use Rattle.canvas.specs.Plans.{offset_of, sheet_layer};
 
 use drawing::Layer;

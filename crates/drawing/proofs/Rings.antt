@@ -1,7 +1,7 @@
 -- A rectangle from the corner on without a part of it is four rectangles: above, left, right and below.
 use Rattle.std.proofs.Common.{◌≡◌, ℕ, min, Bool, true, false, not, ◌&&◌, ◌||◌, arith}
 use Rattle.std.proofs.lemmas.Bool.Decides.{nat_tests}
-use Rattle.drawing.specs.Rectangles.{in_area}
+use Rattle.walk.specs.Rectangles.{in_area}
 
 module _ (w h l r t b end upper lower : ℕ) (e : end ≡ min (min l r) w) (u : upper ≡ min (min t b) h) (o : lower ≡ min b h) where
   abbrev pub above : ℕ → ℕ → Bool

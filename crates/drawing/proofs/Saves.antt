@@ -10,7 +10,7 @@ use Rattle.store.proofs.Inside.{inside_parts}
 use Rattle.drawing.specs.declared.strokes.Drawing.{Drawing}
 use Rattle.picture.specs.Meaning.{Meaning}
 use Rattle.drawing.specs.Layers.{stroke_of, stroke_or, touches, drawn_at}
-use Rattle.drawing.specs.Rectangles.{in_line}
+use Rattle.walk.specs.Rectangles.{in_line}
 use Rattle.drawing.specs.Runs.{room_at, MadeBelow, touches_below}
 
 -- a channel more: its plane counts if it has a stroke

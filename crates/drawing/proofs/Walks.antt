@@ -6,6 +6,7 @@ use Rattle.picture.specs.Meaning.{Meaning}
 use Rattle.store.specs.Held.{Held, inside, seen, Changed}
 use Rattle.store.proofs.Changes.{changed_then, changed_like}
 use Rattle.blend.specs.Tables.{alpha_read, formula}
+use Rattle.walk.proofs.Walks.{both}
 use Rattle.drawing.specs.declared.layers.Layer.{Layer}
 use Rattle.drawing.specs.declared.layers.Layer.TheVariants.{Blank, Planes, Placed}
 use Rattle.drawing.specs.declared.strokes.Stroke.{Stroke}
@@ -33,10 +34,6 @@ module _ (m : Meaning) (a b : Held) (c r : ℕ) (same : (q : ℕ) → seen a q c
 
   pub drawn_local : (d : Drawing) (p : ℕ) → drawn_at d m a p c r ≡ drawn_at d m b p c r
   drawn_local d p = stroke_local (stroke_of d (p - d.first)) d.new d.colors (p - d.first)
-
-both : (t a b : Bool) → ((t && a) || (t && b)) ≡ (t && (a || b))
-both true a b = refl
-both false a b = refl
 
 -- two drawings, one after the other, in different parts
 pub walked_then :

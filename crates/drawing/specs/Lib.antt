@@ -1,3 +1,2 @@
 pub mod Layers
-pub mod Rectangles
 pub mod Runs

@@ -1,13 +1,13 @@
 // The walk over a rectangle of a store by which a stage draws: row by row, in runs of a row.
 // Promise: every place of the rectangle, in each plane that the drawing touches, becomes what the drawing makes of the samples that stood in its
 // column and row before the walk, all channels read before any is written; every other place stays.
-// What a drawing makes is specs/Layers.antt, rectangles are specs/Rectangles.antt.
+// What a drawing makes is specs/Layers.antt, rectangles are specs/Rectangles.antt of crate `walk`.
 #![tactic(auto)]
 
 ghost use Rattle.std.specs.Prelude.{◌≡◌, ◌≤◌, min, not, ◌&&◌, length};
 ghost use Rattle.store.specs.Held.{Changed};
 ghost use Rattle.drawing.specs.Layers.{touches, drawn_at};
-ghost use Rattle.drawing.specs.Rectangles.{in_line, in_area};
+ghost use Rattle.walk.specs.Rectangles.{in_line, in_area};
 
 use picture::Picture;
 use store::Store;

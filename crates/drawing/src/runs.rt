@@ -2,7 +2,7 @@
 ghost use Rattle.std.specs.Prelude.{◌≡◌, ℕ, ◌+◌, ◌-◌, ◌<◌, ◌≤◌, false, ◌&&◌, length};
 ghost use Rattle.store.specs.Held.{Changed};
 ghost use Rattle.drawing.specs.Layers.{stroke_of, touches, drawn_at};
-ghost use Rattle.drawing.specs.Rectangles.{in_line};
+ghost use Rattle.walk.specs.Rectangles.{in_line};
 ghost use Rattle.drawing.specs.Runs.{MadeBelow, room_at, touches_below};
 
 use crate::making::make;

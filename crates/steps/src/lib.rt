@@ -1,12 +1,12 @@
-// Steps along an axis: which column or row of a region a coordinate is.
+// Steps along an axis: which column or row of a region a coordinate is, and rows read from far off.
 // Promise: each function answers for every i64 what its definition says.
-// The words are specs/Gaps.antt, and specs/Positions.antt of crate `region`.
+// The words are specs/Gaps.antt, specs/Positions.antt of crate `region`, and specs/Shapes.antt and specs/Steps.antt of crate `picture`.
 #![tactic(auto)]
 
 ghost use Rattle.std.specs.Prelude.{◌≡◌, ◌<◌, true, false, ◌-ℤ◌, MatchOption, unsigned_abs};
 ghost use Rattle.region.specs.Positions.{along};
 ghost use Rattle.picture.specs.Shapes.{column_of, row_of};
-ghost use Rattle.steps.specs.Gaps.{gap_of};
+ghost use Rattle.picture.specs.Steps.{gap_of};
 
 use region::Region;
 

@@ -6,7 +6,7 @@ use Rattle.store.specs.Held.{Held, inside, seen, Changed}
 use Rattle.store.proofs.Changes.{changed_then, changed_like}
 use Rattle.walk.specs.Rectangles.{Local}
 
-both : (t a b : Bool) → ((t && a) || (t && b)) ≡ (t && (a || b))
+pub both : (t a b : Bool) → ((t && a) || (t && b)) ≡ (t && (a || b))
 both true a b = refl
 both false a b = refl
 

@@ -1,6 +1,6 @@
 -- Four rectangles, apart from each other, that are the whole without the part.
 use Rattle.std.proofs.Common.{◌≡◌, min, not, ◌&&◌, refl, arith}
-use Rattle.drawing.specs.Rectangles.{in_area}
+use Rattle.walk.specs.Rectangles.{in_area}
 use Rattle.drawing.proofs.Rings.{above, before, beside, left_apart, right_apart, below_apart, ring}
 use Rattle.drawing.proofs.Walks.{walked_on}
 use Rattle.drawing.proofs.around.Goals as goal

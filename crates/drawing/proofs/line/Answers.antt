@@ -1,7 +1,7 @@
 -- One run more.
 use Rattle.std.proofs.Common.{◌+◌, ◌≤◌, arith}
 use Rattle.std.proofs.lemmas.Bool.Decides.{nat_tests}
-use Rattle.drawing.specs.Rectangles.{in_line}
+use Rattle.walk.specs.Rectangles.{in_line}
 use Rattle.drawing.proofs.Walks.{walked_on}
 use Rattle.drawing.proofs.line.Goals as goal
 

@@ -2,7 +2,7 @@
 use Rattle.std.proofs.Common.{◌-◌, ◌≤◌, max, ◌&&◌}
 use Rattle.store.specs.Held.{Changed}
 use Rattle.drawing.specs.Layers.{touches, drawn_at}
-use Rattle.drawing.specs.Rectangles.{in_line}
+use Rattle.walk.specs.Rectangles.{in_line}
 use Rattle.drawing.proofs.line.Given as goal
 
 abbrev pub invariant-loop-column : goal.invariant-loop-column

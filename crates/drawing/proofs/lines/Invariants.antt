@@ -2,7 +2,7 @@
 use Rattle.std.proofs.Common.{◌≡◌, ◌<◌, ◌&&◌}
 use Rattle.store.specs.Held.{Changed}
 use Rattle.drawing.specs.Layers.{touches, drawn_at}
-use Rattle.drawing.specs.Rectangles.{in_area}
+use Rattle.walk.specs.Rectangles.{in_area}
 use Rattle.drawing.proofs.lines.Given as goal
 
 abbrev pub invariant-loop-row : goal.invariant-loop-row

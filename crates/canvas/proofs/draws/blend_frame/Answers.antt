@@ -2,7 +2,7 @@
 use Rattle.std.proofs.Common.{◌&&◌, ◌-ℤ◌, ap, ◌∙◌}
 use Rattle.region.specs.Positions.{has}
 use Rattle.picture.specs.Meaning.{blank}
-use Rattle.drawing.specs.Rectangles.{in_area}
+use Rattle.walk.specs.Rectangles.{in_area}
 use Rattle.canvas.specs.Fields.{setup_from, opened_from}
 use Rattle.canvas.proofs.Paintings.{frame-blended}
 use Rattle.canvas.proofs.Planes.{planned_as}

@@ -3,7 +3,7 @@ use Rattle.std.proofs.Common.{◌&&◌, ◌-ℤ◌, ap, ◌∙◌}
 use Rattle.region.specs.declared.Region.{Region}
 use Rattle.region.specs.Positions.{has}
 use Rattle.machine.specs.Machine.{covered}
-use Rattle.drawing.specs.Rectangles.{in_area}
+use Rattle.walk.specs.Rectangles.{in_area}
 use Rattle.canvas.specs.Fields.{setup_from}
 use Rattle.canvas.proofs.Paintings.{picture_copied}
 use Rattle.canvas.proofs.Planes.{planned_as}

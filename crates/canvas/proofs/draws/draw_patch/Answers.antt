@@ -2,7 +2,7 @@
 use Rattle.std.proofs.Common.{◌&&◌, ◌-ℤ◌, ap, ◌∙◌, w32, SFits, rules}
 use Rattle.std.proofs.lemmas.Int.{to_z-of_z}
 use Rattle.region.specs.Positions.{along, has}
-use Rattle.drawing.specs.Rectangles.{in_area}
+use Rattle.walk.specs.Rectangles.{in_area}
 use Rattle.canvas.specs.Fields.{setup_from, opened_from}
 use Rattle.canvas.proofs.Paintings.{patch_drawn}
 use Rattle.canvas.proofs.Planes.{planned_as}

@@ -2,7 +2,7 @@
 use Rattle.std.proofs.Common.{◌+◌, ◌-◌, ◌*◌, ◌&&◌, take, drop, is_some, sym, refl, ap, ◌∙◌, arith}
 use Rattle.std.proofs.lemmas.List.{length-take, length-drop}
 use Rattle.store.proofs.Changes.{changed_like}
-use Rattle.drawing.specs.Rectangles.{in_line}
+use Rattle.walk.specs.Rectangles.{in_line}
 use Rattle.drawing.specs.Runs.{touches_below}
 use Rattle.drawing.proofs.Saves.{saved, saved_more, touch_same, room_part}
 use Rattle.drawing.proofs.runs.scatter.Goals as goal

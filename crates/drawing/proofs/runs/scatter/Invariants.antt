@@ -1,7 +1,7 @@
 -- The runs of the channels before are saved.
 use Rattle.std.proofs.Common.{◌+◌, ◌-◌, ◌&&◌}
 use Rattle.store.specs.Held.{Changed}
-use Rattle.drawing.specs.Rectangles.{in_line}
+use Rattle.walk.specs.Rectangles.{in_line}
 use Rattle.drawing.specs.Runs.{room_at, touches_below}
 use Rattle.drawing.proofs.runs.scatter.Given as goal
 
