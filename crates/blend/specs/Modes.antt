@@ -47,9 +47,9 @@ patch_reads_alpha patch.BlendBelow = true
 patch_reads_alpha patch.MulAddAbove = true
 patch_reads_alpha patch.MulAddBelow = true
 
-abbrev pub has_extra_lem : List Kind → Bool
-has_extra_lem [] = false
-has_extra_lem (kind ∷ kinds) = true
+abbrev pub any_extra : List Kind → Bool
+any_extra [] = false
+any_extra (kind ∷ kinds) = true
 
 abbrev pub is_premultiplied : Kind → Bool
 is_premultiplied NoAlpha = false

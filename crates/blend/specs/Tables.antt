@@ -1,7 +1,7 @@
 -- Which formula a record stands for at a channel. "Own" says that the channel is the alpha which its record names.
 use Rattle.std.specs.Prelude.{ℕ, ◌+◌, Bool, true, false, List, Some, None, Option, ◌==◌, Float}
 use Rattle.formulas.specs.Formulas.{exchanged, clamp_new, clamp_new_alpha, replace_of, add_of, mul_of, skip_of, mix_alpha_of, mul_add_of, blend_of}
-use Rattle.blend.specs.Modes.{has_extra_lem, premultiplied_at}
+use Rattle.blend.specs.Modes.{any_extra, premultiplied_at}
 use Rattle.formulas.specs.declared.Operands.{Operands}
 use Rattle.blend.specs.declared.modes.FrameBlendMode.{FrameBlendMode}
 use Rattle.blend.specs.declared.modes.FrameBlendMode.TheVariants as frame
@@ -51,7 +51,7 @@ is_own channel colors alpha = channel == colors + alpha
 
 abbrev pub frame_mode : (channel colors : ℕ) → BlendingInfo → List Kind → BlendMode
 frame_mode channel colors info kinds =
-    frame_table info.mode (has_extra_lem kinds) (is_own channel colors info.alpha_channel) info.clamp
+    frame_table info.mode (any_extra kinds) (is_own channel colors info.alpha_channel) info.clamp
     (alpha_of info.alpha_channel info.clamp kinds)
 
 abbrev pub patch_mode : (channel colors : ℕ) → PatchBlendingInfo → List Kind → Option BlendMode

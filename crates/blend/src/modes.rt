@@ -15,10 +15,12 @@ pub enum FrameBlendMode {
     Mul,
 }
 
-impl FrameBlendMode {
-    pub fn from_number(number: u8) -> Result<FrameBlendMode, Refusal>
-        ensures { MatchResult result (λ mode. frame_number mode ≡ number) (λ refusal. (refusal ≡ ModeNumber) × (4 < number)) }
-    {
+impl TryFrom<u8> for FrameBlendMode {
+    type Error = Refusal;
+
+    ghost try_from_gives = { λ number r. MatchResult r (λ mode. frame_number mode ≡ number) (λ refusal. (refusal ≡ ModeNumber) × (4 < number)) };
+
+    fn try_from(number: u8) -> Result<Self, Refusal> {
         match number {
             0 => Ok(FrameBlendMode::Replace),
             1 => Ok(FrameBlendMode::Add),
@@ -28,7 +30,9 @@ impl FrameBlendMode {
             _ => Err(Refusal::ModeNumber),
         }
     }
+}
 
+impl FrameBlendMode {
     // Whether a record of this mode reads alpha, with extra channels or without.
     pub fn reads_alpha(self, has_extra: bool) -> bool
         ensures { result ≡ frame_reads_alpha has_extra self }
@@ -53,10 +57,12 @@ pub enum PatchBlendMode {
     MulAddBelow,
 }
 
-impl PatchBlendMode {
-    pub fn from_number(number: u8) -> Result<PatchBlendMode, Refusal>
-        ensures { MatchResult result (λ mode. patch_number mode ≡ number) (λ refusal. (refusal ≡ ModeNumber) × (7 < number)) }
-    {
+impl TryFrom<u8> for PatchBlendMode {
+    type Error = Refusal;
+
+    ghost try_from_gives = { λ number r. MatchResult r (λ mode. patch_number mode ≡ number) (λ refusal. (refusal ≡ ModeNumber) × (7 < number)) };
+
+    fn try_from(number: u8) -> Result<Self, Refusal> {
         match number {
             0 => Ok(PatchBlendMode::None),
             1 => Ok(PatchBlendMode::Replace),
@@ -69,7 +75,9 @@ impl PatchBlendMode {
             _ => Err(Refusal::ModeNumber),
         }
     }
+}
 
+impl PatchBlendMode {
     // Whether a record of this mode reads alpha.
     pub fn reads_alpha(self) -> bool
         ensures { result ≡ patch_reads_alpha self }
@@ -91,10 +99,12 @@ pub enum Kind {
     Premultiplied,
 }
 
-impl Kind {
-    pub fn from_number(number: u8) -> Result<Kind, Refusal>
-        ensures { MatchResult result (λ kind. kind_number kind ≡ number) (λ refusal. (refusal ≡ ChannelKinds) × (2 < number)) }
-    {
+impl TryFrom<u8> for Kind {
+    type Error = Refusal;
+
+    ghost try_from_gives = { λ number r. MatchResult r (λ kind. kind_number kind ≡ number) (λ refusal. (refusal ≡ ChannelKinds) × (2 < number)) };
+
+    fn try_from(number: u8) -> Result<Self, Refusal> {
         match number {
             0 => Ok(Kind::NoAlpha),
             1 => Ok(Kind::Alpha),

@@ -1,5 +1,6 @@
 // Records, and the formula that each stands for at a channel.
 ghost use Rattle.std.specs.Prelude.{◌≡◌};
+ghost use Rattle.blend.specs.declared.records.BlendMode.TheVariants.{Mul, Blend, MulAdd, MixAlpha};
 ghost use Rattle.blend.specs.Modes.{premultiplied_at};
 ghost use Rattle.blend.specs.Tables.{frame_mode, patch_mode, alpha_of, alpha_read, is_own, formula};
 
@@ -48,15 +49,14 @@ pub enum BlendMode {
 fn is_own(channel: usize, color_channels: usize, alpha_channel: u8) -> bool
     ensures { result ≡ is_own channel color_channels alpha_channel }
 {
-    channel >= color_channels && channel - color_channels == alpha_channel as usize
+    channel.checked_sub(color_channels) == Some(alpha_channel as usize)
 }
 
 // Whether the extra channel of that number exists and holds premultiplied alpha.
 fn is_premultiplied(kinds: &[Kind], alpha_channel: u8) -> bool
     ensures { result ≡ premultiplied_at kinds.now alpha_channel }
 {
-    let alpha = alpha_channel as usize;
-    alpha < kinds.len() && matches!(kinds[alpha], Kind::Premultiplied)
+    matches!(kinds.get(alpha_channel as usize), Some(Kind::Premultiplied))
 }
 
 // How a record reads the alpha channel that it names.
@@ -69,6 +69,38 @@ fn alpha_of(channel: u8, clamp: bool, kinds: &[Kind], swapped: bool) -> BlendAlp
         clamp,
         swapped,
         premultiplied,
+    }
+}
+
+pub(crate) fn mul(clamp: bool, operands: Operands) -> f32
+    ensures { result ≡ formula (Mul clamp) operands }
+{
+    operands.clamp_new(clamp).mul()
+}
+
+pub(crate) fn mix_alpha(clamp: bool, swapped: bool, operands: Operands) -> f32
+    ensures { result ≡ formula (MixAlpha clamp swapped) operands }
+{
+    operands.exchanged(swapped).clamp_new(clamp).mix_alpha()
+}
+
+impl BlendAlpha {
+    pub(crate) fn blend(self, operands: Operands) -> f32
+        ensures { result ≡ formula (Blend self) operands }
+    {
+        operands
+            .exchanged(self.swapped)
+            .clamp_new_alpha(self.clamp)
+            .blend(self.premultiplied)
+    }
+
+    pub(crate) fn mul_add(self, operands: Operands) -> f32
+        ensures { result ≡ formula (MulAdd self) operands }
+    {
+        operands
+            .exchanged(self.swapped)
+            .clamp_new_alpha(self.clamp)
+            .mul_add()
     }
 }
 
@@ -155,22 +187,10 @@ impl BlendMode {
         match self {
             BlendMode::Replace => operands.replace(),
             BlendMode::Add => operands.add(),
-            BlendMode::Mul(clamp) => operands.clamp_new(clamp).mul(),
-            BlendMode::Blend(alpha) => {
-                let seen = operands
-                    .exchanged(alpha.swapped)
-                    .clamp_new_alpha(alpha.clamp);
-                seen.blend(alpha.premultiplied)
-            }
-            BlendMode::MulAdd(alpha) => {
-                operands
-                    .exchanged(alpha.swapped)
-                    .clamp_new_alpha(alpha.clamp)
-                    .mul_add()
-            }
-            BlendMode::MixAlpha { clamp, swapped } => {
-                operands.exchanged(swapped).clamp_new(clamp).mix_alpha()
-            }
+            BlendMode::Mul(clamp) => mul(clamp, operands),
+            BlendMode::Blend(alpha) => alpha.blend(operands),
+            BlendMode::MulAdd(alpha) => alpha.mul_add(operands),
+            BlendMode::MixAlpha { clamp, swapped } => mix_alpha(clamp, swapped, operands),
             BlendMode::Skip => operands.skip(),
         }
     }

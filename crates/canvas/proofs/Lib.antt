@@ -1,5 +1,5 @@
 pub mod Alphas
+pub mod Arrays
 pub mod Paintings
 pub mod Planes
-pub mod Records
 pub mod Samples

@@ -19,7 +19,7 @@ use Rattle.blend.specs.declared.records.BlendMode.{BlendMode}
 use Rattle.blend.specs.declared.records.PatchBlendingInfo.{PatchBlendingInfo}
 use Rattle.blend.specs.declared.records.BlendMode.TheVariants.{Skip}
 use Rattle.blend.specs.declared.records.BlendingInfo.{BlendingInfo}
-use Rattle.blend.specs.Modes.{has_extra_lem}
+use Rattle.blend.specs.Modes.{any_extra}
 use Rattle.blend.specs.Tables.{frame_mode, patch_mode, is_own, formula}
 use Rattle.views.specs.View.{Opened, image_of, frame_in, slots_in, frame_slot}
 use Rattle.views.specs.Step.{opens, patches, fills, Painted}
@@ -27,8 +27,10 @@ use Rattle.drawing.specs.declared.layers.Layer.{Layer}
 use Rattle.drawing.specs.declared.layers.Layer.TheVariants.{Blank}
 use Rattle.drawing.specs.declared.strokes.Stroke.{Stroke}
 use Rattle.drawing.specs.declared.strokes.Drawing.{Drawing}
+use Rattle.walk.specs.declared.parts.Area.{Area}
 use Rattle.walk.specs.Rectangles.{in_area}
-use Rattle.drawing.proofs.Walks.{walked_then}
+use Rattle.walk.proofs.Walks.{walked_then}
+use Rattle.drawing.specs.Local.{drawn_local}
 use Rattle.drawing.specs.Layers.{layer_at, layer_operands, stroke_or, touches, drawn_at}
 use Rattle.canvas.specs.Plans.{Plan, Planned, slot_layer, source_layer, sheet_layer, open_plan, patch_plan, info_of, blend_plan, keep_plan, stays}
 use Rattle.canvas.proofs.Alphas.{frame_stroke, patch_stroke, patch_keeps}
@@ -207,7 +209,10 @@ module _ (s : Setup) (o : Opened) (m : Meaning) (rect : Rectangle) (px py : ℤ)
 on_tile : (from : ℤ) (size c : ℕ) → along from size (from +ℤ pos c) ≡ (leb 0 c && ltb c size)
 on_tile from size c = grind (arith, ints, nat_tests)
 
-pub tile_area : (s : Setup) (c r : ℕ) → in_area 0 s.region.width 0 s.region.height c r ≡ has s.region (across s c) (down s r)
+abbrev pub whole : Setup → Area
+whole s = record { left = 0; right = s.region.width; top = 0; bottom = s.region.height }
+
+pub tile_area : (s : Setup) (c r : ℕ) → in_area (whole s) c r ≡ has s.region (across s c) (down s r)
 tile_area s c r =
     turned (leb 0 r && ltb r s.region.height) (leb 0 c && ltb c s.region.width)
     ∙ (λ i. sym (on_tile s.region.left s.region.width c) i && sym (on_tile s.region.top s.region.height r) i)
@@ -247,11 +252,11 @@ module _ (s : Setup) (o : Opened) (filled : List Bool) (m : Meaning) (d k : Draw
       ≡ (has s.region (across s c) (down s r) && covered o.header o.region (across s c -ℤ o.header.left) (down s r -ℤ o.header.top)))
       → (middle : Held)
       → Changed before middle (λ p c r. touches d p && area c r) (drawn_at d m before)
-      → Changed middle after (λ p c r. touches k p && (in_area 0 s.region.width 0 s.region.height c r && not (area c r))) (drawn_at k m middle)
+      → Changed middle after (λ p c r. touches k p && (in_area (whole s) c r && not (area c r))) (drawn_at k m middle)
       → Painted s (fills s (slots_in s filled before) (frame_in s before o)) before after
   frame-blended area after by keeps part middle one next =
       painted_by s target (on_canvas s) (blended s (slots_in s filled before) (frame_in s before o))
-      (walked_then d k m area rest (λ c r t. not-true (area c r) (and_parts (in_area 0 s.region.width 0 s.region.height c r) _ t).1) one next)
+      (walked_then area rest (λ c r t. not-true (area c r) (and_parts (in_area (whole s) c r) _ t).1) (touches d) (touches k) (drawn_at d m) (drawn_at k m) (drawn_local k m) one next)
       (λ p c r other. or_from _ _ (untouched by p (area c r) other) (untouched keeps p (rest c r) other))
       (λ p c r mine w. ⊎_elim (λ t. inside_part p c r mine (and_parts (touches d p) (area c r) t).1) (λ t. outside_part p c r mine t) (or_cases (touches d p && area c r) (touches k p && rest c r) w))
       (λ p c r inner mine w shown. stays_there p c r mine w shown)
@@ -260,7 +265,7 @@ module _ (s : Setup) (o : Opened) (filled : List Bool) (m : Meaning) (d k : Draw
       target = o.header.target
 
       rest : ℕ → ℕ → Bool
-      rest c r = in_area 0 s.region.width 0 s.region.height c r && not (area c r)
+      rest c r = in_area (whole s) c r && not (area c r)
 
       info : ℕ → BlendingInfo
       info ch = info_of s o ch
@@ -298,10 +303,10 @@ module _ (s : Setup) (o : Opened) (filled : List Bool) (m : Meaning) (d k : Draw
           let on = and_from (ltb ch (channels_of s)) _ (below p mine) here.0 in
           let shown = and_from (on_canvas s ch (across s c) (down s r)) _ on here.1 in (
             on,
-            cond-false (touches k p && rest c r) _ _ (and_right (touches k p) _ (and_right (in_area 0 s.region.width 0 s.region.height c r) _ (not_from_true (area c r) t)))
+            cond-false (touches k p && rest c r) _ _ (and_right (touches k p) _ (and_right (in_area (whole s) c r) _ (not_from_true (area c r) t)))
                 ∙ drawn_plan by m before p c r mine
                 ∙ frame_stroke (source_layer s filled (info ch).source) (slot_layer s frame_slot) s.colors m before ch c r (info ch).clamp s.kinds (info ch).alpha_channel
-                (info ch).mode (has_extra_lem s.kinds) (is_own ch s.colors (info ch).alpha_channel)
+                (info ch).mode (any_extra s.kinds) (is_own ch s.colors (info ch).alpha_channel)
                 ∙ ap (formula (frame_mode ch s.colors (info ch) s.kinds)) (blend_operands c r here.0 here.1 (info ch).source ch (s.colors + (info ch).alpha_channel))
                 ∙ sym (cond-true (on_canvas s ch (across s c) (down s r)) _ zero on ∙ cond-true (drawn s o.header o.region ch (across s c) (down s r)) _ _ shown),
           )
@@ -314,7 +319,7 @@ module _ (s : Setup) (o : Opened) (filled : List Bool) (m : Meaning) (d k : Draw
       outside_part p c r mine t =
           let ch = channel_at s target p in
           let ways = and_parts (touches k p) (rest c r) t in
-          let spot = and_parts (in_area 0 s.region.width 0 s.region.height c r) _ ways.1 in
+          let spot = and_parts (in_area (whole s) c r) _ ways.1 in
           let tile = sym (tile_area s c r) ∙ spot.0 in
           let off = none_if (has s.region (across s c) (down s r)) _ tile (sym (part c r) ∙ not-true (area c r) spot.1) in
           let on = and_from (ltb ch (channels_of s)) _ (below p mine) tile in
@@ -339,7 +344,7 @@ module _ (s : Setup) (o : Opened) (filled : List Bool) (m : Meaning) (d k : Draw
           let neither = or_parts (touches d p && area c r) (touches k p && rest c r) w in
           let out = none_if (touches d p) (area c r) (touch_plan by p ∙ and_from (own s target p) true mine refl) neither.0 in
           let off = none_if (has s.region (across s c) (down s r)) _ tile (sym (part c r) ∙ out) in
-          let there = and_from (in_area 0 s.region.width 0 s.region.height c r) _ (tile_area s c r ∙ tile) (not_from_false (area c r) out) in
+          let there = and_from (in_area (whole s) c r) _ (tile_area s c r ∙ tile) (not_from_false (area c r) out) in
           let none = none_if (own s target p) (is_some (keep_plan s o filled ch)) mine (sym (touch_plan keeps p) ∙ off_if (touches k p) (rest c r) there neither.1) in
           let kept = kept_own (get_or filled target false) (eqb (info ch).source target) _ none in
           goal_off ch c r shown off

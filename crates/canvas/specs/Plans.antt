@@ -19,6 +19,10 @@ use Rattle.drawing.specs.Layers.{stroke_of}
 abbrev pub Plan : Type 0
 Plan = ℕ → Option Stroke
 
+-- whatever is given to a channel, it is what the plan says
+abbrev pub Follows : (ℕ → Option Stroke → Type 0) → Plan → Type 0
+Follows given plan = (ch : ℕ) (stroke : Option Stroke) → given ch stroke → stroke ≡ plan ch
+
 -- the planes of a slot
 abbrev pub slot_layer : Setup → ℕ → Layer
 slot_layer s k = Planes (k * channels_of s) (channels_of s)

@@ -1,31 +1,37 @@
 // How open, patch and blend draw.
 ghost use Rattle.std.specs.Prelude.{◌≡◌, ◌<◌};
-ghost use Rattle.machine.specs.Calls.{Patch};
 ghost use Rattle.views.specs.View.{image_of, frame_in, slots_in};
 ghost use Rattle.views.specs.Step.{opens, patches, fills, Painted};
-ghost use Rattle.canvas.specs.Fields.{setup_from, opened_from};
-ghost use Rattle.canvas.specs.Plans.{Planned};
+ghost use Rattle.canvas.specs.Fields.{setup_from, opened_from, patch_from};
+ghost use Rattle.canvas.specs.Plans.{Plan, Follows, Planned};
 
-use crate::parts::{area_of, covered_part, drawn_part, sheet_layer};
-use crate::plans::{Blending, FRAME_SLOT, Keeping, Opening, Patching, Plan, slot_layer, strokes};
-use crate::terms::{OpenFrame, Terms};
-use drawing::{Drawing, Layer, area, around};
-use machine::{Header, PatchRecord, Rectangle};
+use crate::parts::{area_under, covered_part, sheet_layer};
+use crate::plans::{FRAME_SLOT, blend_stroke, keep_stroke, patch_stroke, slot_layer, strokes};
+use crate::terms::{OpenFrame, Patch, Terms};
+use blend::BlendMode;
+use drawing::{Drawing, Layer, Stroke, area, around};
+use machine::Header;
 use picture::{Blank, Picture};
 use region::Region;
 use store::Store;
 
-// The drawing by a plan, onto the planes of a slot.
-fn drawing_of<P: Plan>(terms: &Terms, slot: u32, new: Layer, plan: &P) -> Drawing
-    requires { slot < 5 }
-    ensures { Planned (setup_from terms.now) slot (P.Plan.planned plan.now) new result }
+// The drawing onto the planes of a slot by which each channel gets its stroke.
+fn drawing_of<F: Fn(usize) -> Option<Stroke>>(
+    terms: &Terms,
+    slot: u32,
+    new: Layer,
+    stroke: F,
+) -> Drawing
+    requires slot { slot < 5 }
+    requires calls { F.IsAlwaysCallable stroke }
+    ensures { (plan : Plan) → Follows (F.post stroke) plan → Planned (setup_from terms.now) slot plan new result }
 {
     let channels = terms.channels();
     Drawing {
         first: slot * channels,
         colors: terms.colors,
         new,
-        strokes: strokes(plan, channels),
+        strokes: strokes(channels as usize, stroke),
     }
 }
 
@@ -35,11 +41,15 @@ pub fn copy_picture<S: Store, P: Picture>(terms: &Terms, store: &mut S, header: 
 {
     let region = terms.region;
     let covered = covered_part(header, picture.region());
-    let part = drawn_part(region, header, covered);
-    let (left, right, top, bottom) = area_of(region, part);
+    let spot = area_under(region, header, covered);
     let new = sheet_layer(region, header, 0, 0, 0, 0);
-    let drawing = drawing_of(terms, FRAME_SLOT, new, &Opening);
-    area(&drawing, store, picture, left, right, top, bottom);
+    let drawing = drawing_of(terms, FRAME_SLOT, new, |_channel| {
+        Some(Stroke {
+            old: Layer::Blank,
+            mode: BlendMode::Replace,
+        })
+    });
+    area(&drawing, store, picture, spot);
 }
 
 // Draws a patch onto the open frame.
@@ -47,27 +57,27 @@ pub fn draw_patch<S: Store, P: Picture>(
     terms: &Terms,
     store: &mut S,
     frame: &OpenFrame,
-    rectangle: Rectangle,
-    x: i32,
-    y: i32,
-    records: &[PatchRecord],
-    sheet: &P,
+    patch: &Patch<P>,
 )
-    ensures { Painted (setup_from terms.now) (patches (setup_from terms.now) (frame_in (setup_from terms.now) (S.Store.held store.old) (opened_from frame.now)) (record { rectangle = rectangle; x = x; y = y; records = records.now; sheet = image_of (P.Picture.meaning sheet.now) })) (S.Store.held store.old) (S.Store.held store.new) }
+    ensures { Painted (setup_from terms.now) (patches (setup_from terms.now) (frame_in (setup_from terms.now) (S.Store.held store.old) (opened_from frame.now)) (patch_from P.Picture.meaning patch.now)) (S.Store.held store.old) (S.Store.held store.new) }
 {
     let region = terms.region;
     let header = frame.header;
+    let &Patch {
+        rectangle,
+        x,
+        y,
+        records,
+        sheet,
+    } = patch;
     let covered = covered_part(header, frame.region);
     let met = covered.cut(x, y, rectangle.width, rectangle.height);
-    let part = drawn_part(region, header, met);
-    let (left, right, top, bottom) = area_of(region, part);
+    let spot = area_under(region, header, met);
     let new = sheet_layer(region, header, x, y, rectangle.left, rectangle.top);
-    let plan = Patching {
-        terms: *terms,
-        records,
-    };
-    let drawing = drawing_of(terms, FRAME_SLOT, new, &plan);
-    area(&drawing, store, sheet, left, right, top, bottom);
+    let drawing = drawing_of(terms, FRAME_SLOT, new, |channel| {
+        patch_stroke(terms, records, channel)
+    });
+    area(&drawing, store, sheet, spot);
 }
 
 // Fills the target: the frame where it is drawn, and the sources elsewhere.
@@ -77,27 +87,16 @@ pub fn blend_frame<S: Store>(terms: &Terms, store: &mut S, frame: &OpenFrame, fi
     let region = terms.region;
     let header = frame.header;
     let covered = covered_part(header, frame.region);
-    let part = drawn_part(region, header, covered);
-    let (left, right, top, bottom) = area_of(region, part);
-    let blending = Blending {
-        terms: *terms,
-        frame: *frame,
-        filled: *filled,
-    };
+    let spot = area_under(region, header, covered);
     let none = Blank::new(0, Region::empty());
     let new = slot_layer(terms, FRAME_SLOT);
-    let drawn = drawing_of(terms, header.target, new, &blending);
-    area(&drawn, store, &none, left, right, top, bottom);
-    let kept = drawing_of(terms, header.target, Layer::Blank, &Keeping(blending));
-    around(
-        &kept,
-        store,
-        &none,
-        region.width(),
-        region.height(),
-        left,
-        right,
-        top,
-        bottom,
-    );
+    let drawn = drawing_of(terms, header.target, new, |channel| {
+        blend_stroke(terms, frame, filled, channel)
+    });
+    area(&drawn, store, &none, spot);
+    let kept = drawing_of(terms, header.target, Layer::Blank, |channel| {
+        keep_stroke(terms, frame, filled, channel)
+    });
+    let (width, height) = (region.width() as usize, region.height() as usize);
+    around(&kept, store, &none, width, height, spot);
 }

@@ -5,10 +5,9 @@
 
 pub mod draws;
 mod makes;
-mod meanings;
 mod parts;
 mod plans;
 pub mod terms;
 
 pub use draws::{blend_frame, copy_picture, draw_patch};
-pub use terms::{OpenFrame, Terms};
+pub use terms::{OpenFrame, Patch, Terms};

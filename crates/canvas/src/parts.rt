@@ -8,6 +8,7 @@ ghost use Rattle.canvas.specs.Plans.{offset_of, sheet_layer};
 use drawing::Layer;
 use machine::Header;
 use region::Region;
+use walk::Area;
 
 // The part of a frame that its picture covers, in the frame's coordinates.
 pub(crate) fn covered_part(header: Header, picture: Region) -> Region
@@ -16,11 +17,14 @@ pub(crate) fn covered_part(header: Header, picture: Region) -> Region
     picture.cut(0, 0, header.width, header.height)
 }
 
-// The part of a canvas that lies under a part of a frame.
-pub(crate) fn drawn_part(region: Region, header: Header, covered: Region) -> Region
-    ensures { (x y : ℤ) → has result x y ≡ (has region x y && has covered (x -ℤ header.left) (y -ℤ header.top)) }
+// Where on a canvas a part of a frame lies.
+pub(crate) fn area_under(region: Region, header: Header, part: Region) -> Area
+    ensures { (c r : ℕ) → let x = region.left +ℤ pos c in let y = region.top +ℤ pos r in in_area result c r ≡ (has region x y && has part (x -ℤ header.left) (y -ℤ header.top)) }
 {
-    region.part_under(covered, header.left, header.top)
+    let under = region.part_under(part, header.left, header.top);
+    let (left, right) = region.columns_of(under);
+    let (top, bottom) = region.rows_of(under);
+    Area::new(left as usize, right as usize, top as usize, bottom as usize)
 }
 
 fn difference(a: i32, b: i32) -> i64
@@ -51,13 +55,4 @@ pub(crate) fn sheet_layer(
         x: offset(region.left(), header.left, x, left),
         y: offset(region.top(), header.top, y, top),
     }
-}
-
-// The columns and rows of a region in which a part lies: left, right, top and bottom.
-pub(crate) fn area_of(region: Region, part: Region) -> (u32, u32, u32, u32)
-    ensures { (c r : ℕ) → in_area result.0 result.1 result.2 result.3 c r ≡ has part (region.left +ℤ pos c) (region.top +ℤ pos r) }
-{
-    let (left, right) = region.columns_of(part);
-    let (top, bottom) = region.rows_of(part);
-    (left, right, top, bottom)
 }

@@ -1,97 +1,114 @@
 // What the arguments of open and patch decide.
-ghost use Rattle.std.specs.Prelude.{◌≡◌, ℕ, suc, ◌+◌, ◌&&◌, ◌||◌, length, ◌==◌, nat_le};
+ghost use Rattle.std.specs.Prelude.{◌≡◌, ℕ, suc, ◌+◌, ◌&&◌, ◌||◌, length, ◌==◌, nat_le, nat_lt};
+ghost use Rattle.std.specs.List.{list_any};
+ghost use Rattle.std.specs.Result.{result_err};
 ghost use Rattle.region.specs.declared.Region.{Region};
 ghost use Rattle.region.specs.Bounds.{place_allowed};
 ghost use Rattle.region.specs.Positions.{is_empty, is_allowed};
-ghost use Rattle.blend.specs.Modes.{has_extra_lem, frame_reads_alpha};
+ghost use Rattle.blend.specs.Modes.{any_extra, frame_reads_alpha, patch_reads_alpha};
 ghost use Rattle.machine.specs.Calls.{Canvas};
-ghost use Rattle.machine.specs.Checks.{any_of, frame_mode_of, frame_allowed, rectangle_inside, first_broken, open_checks, patch_checks};
+ghost use Rattle.machine.specs.Checks.{frame_mode_of, patch_mode_of, rectangle_inside, first_broken, open_checks, patch_checks};
 
-use crate::any::any;
-use crate::records::{FrameAlpha, FrameModeNumber, PatchAlpha, PatchModeNumber, SourceSlot};
-use blend::Kind;
+use blend::{FrameBlendMode, Kind, PatchBlendMode};
+use machine::records::{frame_mode, patch_mode};
 use machine::{FrameRecord, Header, PatchRecord, Rectangle};
 use refusal::Refusal;
 use region::Region;
 use region::axes::is_within;
-use region::limits::{place_allowed, side_allowed};
+use region::limits::place_allowed;
 
-fn frame_allowed(header: Header) -> bool
-    ensures { result ≡ frame_allowed header }
-{
-    side_allowed(header.width)
-        && side_allowed(header.height)
-        && place_allowed(header.left)
-        && place_allowed(header.top)
+// The channels of a stage: how many colours, and what each extra channel holds.
+#[derive(Clone, Copy)]
+pub struct Channels<'a> {
+    pub colors: usize,
+    pub kinds: &'a [Kind],
 }
 
-fn has_extra(kinds: &[Kind]) -> bool
-    ensures { result ≡ has_extra_lem kinds.now }
+// What a picture is looked at by: its channels and its region.
+#[derive(Clone, Copy)]
+pub struct Shape {
+    pub channels: usize,
+    pub region: Region,
+}
+
+impl<'a> Channels<'a> {
+    // One record for the colours, and one for each extra channel.
+    fn has_records(self, records: usize) -> bool
+        ensures { result ≡ (records == suc (length self.entry.kinds.now)) }
+    {
+        records.checked_sub(1) == Some(self.kinds.len())
+    }
+
+    fn are_those_of(self, image: Shape) -> bool
+        ensures { result ≡ (image.channels == self.entry.colors + length self.entry.kinds.now) }
+    {
+        image.channels.checked_sub(self.colors) == Some(self.kinds.len())
+    }
+}
+
+impl Shape {
+    // The region is empty, or one that a stage works on.
+    fn is_allowed(self) -> bool
+        ensures { result ≡ (is_empty self.region || is_allowed self.region) }
+    {
+        self.region.is_empty() || self.region.is_allowed()
+    }
+}
+
+fn any_source_missing(records: &[FrameRecord]) -> bool
+    ensures { result ≡ list_any (λ r. nat_le 4 r.source) records.now }
 {
-    !kinds.is_empty()
+    records.iter().any(|r| r.source >= 4)
+}
+
+fn any_frame_mode_unknown(records: &[FrameRecord]) -> bool
+    ensures { result ≡ list_any (λ r. nat_lt 4 r.mode) records.now }
+{
+    records
+        .iter()
+        .any(|r| FrameBlendMode::try_from(r.mode).is_err())
+}
+
+fn any_patch_mode_unknown(records: &[PatchRecord]) -> bool
+    ensures { result ≡ list_any (λ r. nat_lt 7 r.mode) records.now }
+{
+    records
+        .iter()
+        .any(|r| PatchBlendMode::try_from(r.mode).is_err())
 }
 
 // Whether a frame's record reads an alpha that does not exist.
-fn alpha_missing(kinds: &[Kind], records: &[FrameRecord]) -> bool
-    ensures { result ≡ any_of (λ q. frame_reads_alpha (has_extra_lem kinds.now) (frame_mode_of q.mode) && nat_le (length kinds.now) q.alpha) records.now }
+fn any_frame_alpha_missing(kinds: &[Kind], records: &[FrameRecord]) -> bool
+    ensures { result ≡ list_any (λ r. frame_reads_alpha (any_extra kinds.now) (frame_mode_of r.mode) && nat_le (length kinds.now) r.alpha) records.now }
 {
-    let has_extra = has_extra(kinds);
+    let has_extra = !kinds.is_empty();
     let extras = kinds.len();
-    any(&FrameAlpha { has_extra, extras }, records)
+    records.iter().any(|r| frame_mode(r.mode).reads_alpha(has_extra) && r.alpha as usize >= extras)
 }
 
-// One record for the colours, and one for each extra channel.
-fn count_fits(records: usize, extras: usize) -> bool
-    ensures { result ≡ (records == suc extras) }
+// Whether a patch's record reads an alpha that does not exist.
+fn any_patch_alpha_missing(kinds: &[Kind], records: &[PatchRecord]) -> bool
+    ensures { result ≡ list_any (λ r. patch_reads_alpha (patch_mode_of r.mode) && nat_le (length kinds.now) r.alpha) records.now }
 {
-    records > 0 && records - 1 == extras
-}
-
-fn channels_fit(channels: usize, colors: usize, extras: usize) -> bool
-    ensures { result ≡ (channels == colors + extras) }
-{
-    channels >= colors && channels - colors == extras
-}
-
-fn image_allowed(region: Region) -> bool
-    ensures { result ≡ (is_empty region || is_allowed region) }
-{
-    region.is_empty() || region.is_allowed()
+    let extras = kinds.len();
+    records.iter().any(|r| patch_mode(r.mode).reads_alpha() && r.alpha as usize >= extras)
 }
 
 pub fn open_refusal(
-    colors: usize,
-    kinds: &[Kind],
+    channels: Channels,
     header: Header,
     records: &[FrameRecord],
-    channels: usize,
-    region: Region,
-) -> Option<Refusal>
-    ensures { (mark : ℕ) (tile : Region) (values : Canvas) → result ≡ first_broken (open_checks (record { mark = mark; region = tile; colors = colors; kinds = kinds.now }) header records.now (record { channels = channels; region = region; values = values })) }
+    image: Shape,
+) -> Result<(), Refusal>
+    ensures { (mark : ℕ) (tile : Region) (values : Canvas) → result_err result ≡ first_broken (open_checks (record { mark = mark; region = tile; colors = channels.entry.colors; kinds = channels.entry.kinds.now }) header records.now (record { channels = image.channels; region = image.region; values = values })) }
 {
-    let extras = kinds.len();
-    if !frame_allowed(header) {
-        return Some(Refusal::FrameLimits);
-    }
-    if header.target >= 4 || any(&SourceSlot, records) {
-        return Some(Refusal::SlotNumber);
-    }
-    if !count_fits(records.len(), extras) {
-        return Some(Refusal::RecordCount);
-    }
-    if any(&FrameModeNumber, records) {
-        return Some(Refusal::ModeNumber);
-    }
-    if alpha_missing(kinds, records) {
-        return Some(Refusal::MissingAlpha);
-    }
-    if !channels_fit(channels, colors, extras) {
-        return Some(Refusal::PictureChannels);
-    }
-    if !image_allowed(region) {
-        return Some(Refusal::PictureLimits);
-    }
-    None
+    Refusal::FrameLimits.unless(header.is_allowed())?;
+    Refusal::SlotNumber.unless(header.target < 4 && !any_source_missing(records))?;
+    Refusal::RecordCount.unless(channels.has_records(records.len()))?;
+    Refusal::ModeNumber.unless(!any_frame_mode_unknown(records))?;
+    Refusal::MissingAlpha.unless(!any_frame_alpha_missing(channels.kinds, records))?;
+    Refusal::PictureChannels.unless(channels.are_those_of(image))?;
+    Refusal::PictureLimits.unless(image.is_allowed())
 }
 
 // The rectangle has both sides, and lies inside the sheet.
@@ -110,38 +127,20 @@ fn both_allowed(x: i32, y: i32) -> bool
 }
 
 pub fn patch_refusal(
-    colors: usize,
-    kinds: &[Kind],
+    channels: Channels,
     rectangle: Rectangle,
     x: i32,
     y: i32,
     records: &[PatchRecord],
-    channels: usize,
-    sheet: Region,
-) -> Option<Refusal>
-    ensures { (mark : ℕ) (tile : Region) (values : Canvas) → result ≡ first_broken (patch_checks (record { mark = mark; region = tile; colors = colors; kinds = kinds.now }) (record { rectangle = rectangle; x = x; y = y; records = records.now; sheet = record { channels = channels; region = sheet; values = values } })) }
+    sheet: Shape,
+) -> Result<(), Refusal>
+    ensures { (mark : ℕ) (tile : Region) (values : Canvas) → result_err result ≡ first_broken (patch_checks (record { mark = mark; region = tile; colors = channels.entry.colors; kinds = channels.entry.kinds.now }) (record { rectangle = rectangle; x = x; y = y; records = records.now; sheet = record { channels = sheet.channels; region = sheet.region; values = values } })) }
 {
-    let extras = kinds.len();
-    if !count_fits(records.len(), extras) {
-        return Some(Refusal::RecordCount);
-    }
-    if any(&PatchModeNumber, records) {
-        return Some(Refusal::ModeNumber);
-    }
-    if any(&PatchAlpha { extras }, records) {
-        return Some(Refusal::MissingAlpha);
-    }
-    if !channels_fit(channels, colors, extras) {
-        return Some(Refusal::PictureChannels);
-    }
-    if !image_allowed(sheet) {
-        return Some(Refusal::PictureLimits);
-    }
-    if !rectangle_inside(rectangle, sheet) {
-        return Some(Refusal::PatchRectangle);
-    }
-    if !both_allowed(x, y) {
-        return Some(Refusal::PatchPlace);
-    }
-    None
+    Refusal::RecordCount.unless(channels.has_records(records.len()))?;
+    Refusal::ModeNumber.unless(!any_patch_mode_unknown(records))?;
+    Refusal::MissingAlpha.unless(!any_patch_alpha_missing(channels.kinds, records))?;
+    Refusal::PictureChannels.unless(channels.are_those_of(sheet))?;
+    Refusal::PictureLimits.unless(sheet.is_allowed())?;
+    Refusal::PatchRectangle.unless(rectangle_inside(rectangle, sheet.region))?;
+    Refusal::PatchPlace.unless(both_allowed(x, y))
 }

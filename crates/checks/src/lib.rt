@@ -3,7 +3,5 @@
 // The definition is specs/Checks.antt of crate `machine`, and in prose docs/STAGE.md and docs/REFUSALS.md.
 #![tactic(auto)]
 
-mod any;
 pub mod arguments;
-pub mod records;
 pub mod starts;

@@ -1,4 +1,3 @@
+pub mod Made
 pub mod Rings
-pub mod Rooms
 pub mod Saves
-pub mod Walks

@@ -1,5 +1,5 @@
--- Words of the inner contracts: a room that holds a run of each channel, 128 samples apart.
-use Rattle.std.specs.Prelude.{◌≡◌, ℕ, ◌+◌, ◌-◌, ◌*◌, ◌<◌, Bool, true, ◌&&◌, List, is_some, nat_le, nat_lt, slice_index_or, Float}
+-- Words of the inner contracts: a room that holds a run of each channel.
+use Rattle.std.specs.Prelude.{◌≡◌, ℕ, ◌+◌, ◌-◌, ◌<◌, Bool, true, ◌&&◌, List, [], is_some, nat_le, nat_lt, slice_index_or, Float}
 use Rattle.std.specs.Float.{nan}
 use Rattle.picture.specs.Meaning.{Meaning}
 use Rattle.store.specs.Held.{Held}
@@ -7,11 +7,11 @@ use Rattle.drawing.specs.declared.strokes.Drawing.{Drawing}
 use Rattle.drawing.specs.Layers.{stroke_of, stroke_or}
 
 -- sample k of a channel's run
-abbrev pub room_at : List Float → (channel k : ℕ) → Float
-room_at room ch k = slice_index_or room (ch * 128 + k) nan
+abbrev pub room_at : List (List Float) → (channel k : ℕ) → Float
+room_at room ch k = slice_index_or (slice_index_or room ch []) k nan
 
 -- the runs of the first channels are made
-abbrev pub MadeBelow : ℕ → Drawing → Meaning → Held → (column row count : ℕ) → List Float → Type 0
+abbrev pub MadeBelow : ℕ → Drawing → Meaning → Held → (column row count : ℕ) → List (List Float) → Type 0
 MadeBelow n d m h column row count room =
     (ch k : ℕ)
     → ch < n

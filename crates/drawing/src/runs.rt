@@ -1,108 +1,88 @@
 // One run of a row: all channels are read before any is written.
-ghost use Rattle.std.specs.Prelude.{◌≡◌, ℕ, ◌+◌, ◌-◌, ◌<◌, ◌≤◌, false, ◌&&◌, length};
+ghost use Rattle.std.specs.Prelude.{◌≡◌, ℕ, ◌+◌, ◌-◌, ◌≤◌, ◌&&◌};
 ghost use Rattle.store.specs.Held.{Changed};
-ghost use Rattle.drawing.specs.Layers.{stroke_of, touches, drawn_at};
+ghost use Rattle.drawing.specs.Layers.{touches, drawn_at};
 ghost use Rattle.walk.specs.Rectangles.{in_line};
 ghost use Rattle.drawing.specs.Runs.{MadeBelow, room_at, touches_below};
+ghost use Rattle.drawing.specs.Local.{drawn_local};
 
 use crate::making::make;
-use crate::strokes::{Drawing, Stroke};
+use crate::places::{Place, Source};
+use crate::rooms::Room;
+use crate::strokes::Drawing;
 use picture::Picture;
 use store::Store;
-
-// The stroke of a channel.
-fn stroke_of(drawing: &Drawing, channel: usize) -> Option<Stroke>
-    requires { channel < 11 }
-    ensures { result ≡ stroke_of drawing.entry.now channel }
-{
-    drawing.strokes[channel]
-}
-
-// Whether any channel has a stroke.
-pub(crate) fn has_strokes(drawing: &Drawing) -> bool
-    ensures { result ≡ false → (p : ℕ) → touches drawing.entry.now p ≡ false }
-{
-    for channel in 0..11usize {
-        if stroke_of(drawing, channel).is_some() {
-            return true;
-        }
-    }
-    false
-}
+use walk::{Painter, RUN, Run};
 
 // Makes the run of each channel that has a stroke.
 fn gather<S: Store, P: Picture>(
     drawing: &Drawing,
     store: &S,
     picture: &P,
-    column: u32,
-    row: u32,
-    count: usize,
-    made: &mut [f32],
-    room: &mut [f32],
+    run: Run,
+    room: &mut Room,
 )
-    requires { (length made.old ≡ 1408) × ((384 ≤ length room.old) × (count ≤ 128)) }
-    ensures { MadeBelow 11 drawing.entry.now (P.Picture.meaning picture.now) (S.Store.held store.now) column row count made.new }
+    ensures { MadeBelow 11 drawing.entry.now (P.Picture.meaning picture.now) (S.Store.held store.now) run.column run.row run.count room.new.made }
 {
-    for channel in 0..11usize {
-        if let Some(stroke) = stroke_of(drawing, channel) {
-            let start = channel * 128;
-            make(
-                stroke,
-                drawing.new,
-                drawing.colors,
-                store,
-                picture,
+    let source = Source { store, picture };
+    let Room { made, operands } = room;
+    for (channel, stroke) in drawing.strokes.iter().enumerate() {
+        if let Some(stroke) = *stroke {
+            let place = Place {
                 channel,
-                column,
-                row,
-                &mut made[start..start + count],
-                room,
+                column: run.column,
+                row: run.row,
+            };
+            make(
+                drawing,
+                stroke,
+                &source,
+                place,
+                &mut made[channel][0..run.count],
+                operands,
             );
         }
     }
 }
 
 // Saves the runs, each to its channel's plane.
-fn scatter<S: Store>(
-    drawing: &Drawing,
-    store: &mut S,
-    column: u32,
-    row: u32,
-    count: usize,
-    made: &[f32],
-)
-    requires { (length made.now ≡ 1408) × ((count ≤ 128) × (column + count ≤ (S.Store.held store.old).columns)) }
-    ensures { Changed (S.Store.held store.old) (S.Store.held store.new) (λ p c r. touches_below 11 drawing.entry.now p && in_line column (column + count) row c r) (λ p c r. room_at made.now (p - drawing.entry.now.first) (c - column)) }
+fn scatter<S: Store>(drawing: &Drawing, store: &mut S, run: Run, made: &[[f32; RUN]; 11])
+    requires { run.column + run.count ≤ (S.Store.held store.old).columns }
+    ensures { Changed (S.Store.held store.old) (S.Store.held store.new) (λ p c r. touches_below 11 drawing.entry.now p && in_line run.column (run.column + run.count) run.row c r) (λ p c r. room_at made.now (p - drawing.entry.now.first) (c - run.column)) }
 {
     let first = drawing.first as usize;
-    for channel in 0..11usize {
-        if stroke_of(drawing, channel).is_some() {
-            let start = channel * 128;
+    for (channel, stroke) in drawing.strokes.iter().enumerate() {
+        if stroke.is_some() {
             store.save(
                 first + channel,
-                column as usize,
-                row as usize,
-                &made[start..start + count],
+                run.column,
+                run.row,
+                &made[channel][0..run.count],
             );
         }
     }
 }
 
-// Draws a run of at most 128 columns that the store has.
-pub(crate) fn run<S: Store, P: Picture>(
-    drawing: &Drawing,
-    store: &mut S,
-    picture: &P,
-    column: u32,
-    row: u32,
-    count: usize,
-    made: &mut [f32],
-    room: &mut [f32],
-)
-    requires { (length made.old ≡ 1408) × ((384 ≤ length room.old) × ((count ≤ 128) × (column + count ≤ (S.Store.held store.old).columns))) }
-    ensures { Changed (S.Store.held store.old) (S.Store.held store.new) (λ p c r. touches drawing.entry.now p && in_line column (column + count) row c r) (drawn_at drawing.entry.now (P.Picture.meaning picture.now) (S.Store.held store.old)) }
-{
-    gather(drawing, store, picture, column, row, count, made, room);
-    scatter(drawing, store, column, row, count, made);
+impl<S: Store, P: Picture> Painter<S, P> for Drawing {
+    type Room = Room;
+
+    ghost touches = { touches };
+
+    ghost value = { drawn_at };
+
+    ghost local = { drawn_local };
+
+    // Draws the part of a run that the store has.
+    fn paint_run(&self, room: &mut Room, store: &mut S, picture: &P, run: Run) {
+        let Some(rest) = store.columns().checked_sub(run.column) else {
+            return;
+        };
+        let run = Run {
+            column: run.column,
+            row: run.row,
+            count: run.count.min(rest),
+        };
+        gather(self, store, picture, run, room);
+        scatter(self, store, run, &room.made);
+    }
 }

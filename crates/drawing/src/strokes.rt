@@ -1,4 +1,7 @@
 // Strokes: what a drawing does to each channel.
+ghost use Rattle.std.specs.Prelude.{◌≡◌, ℕ, false};
+ghost use Rattle.drawing.specs.Layers.{touches};
+
 use crate::layers::Layer;
 use blend::BlendMode;
 
@@ -17,4 +20,13 @@ pub struct Drawing {
     pub colors: u32,
     pub new: Layer,
     pub strokes: [Option<Stroke>; 11],
+}
+
+impl Drawing {
+    // Whether any channel has a stroke.
+    pub(crate) fn has_strokes(&self) -> bool
+        ensures { result ≡ false → (p : ℕ) → touches self.entry.now p ≡ false }
+    {
+        self.strokes.iter().any(|stroke| stroke.is_some())
+    }
 }

@@ -19,13 +19,7 @@ pub struct Operands {
 pub fn clamp(x: f32) -> f32
     ensures { result ≡ clamped x }
 {
-    if x < 0.0 {
-        0.0
-    } else if x > 1.0 {
-        1.0
-    } else {
-        x
-    }
+    x.clamp(0.0, 1.0)
 }
 
 impl Operands {

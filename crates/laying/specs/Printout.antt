@@ -18,14 +18,16 @@ refused_by bytes =
     cond (nat_lt longest_input bytes) (Some (record { fault = fault.Input InputLength; plate = 0; byte = longest_input }))
     (cond (nat_lt bytes header_length) (Some (record { fault = fault.Plate PlateHeader; plate = 0; byte = 0 })) None)
 
--- one line: the number, the layer, the plate and its first byte
-abbrev pub line_of : ℕ → List ℕ → ℕ → ℕ → List ℕ
-line_of number layer plate byte =
+-- the number, the layer, the plate and its first byte
+abbrev pub refused_text : Refused → List ℕ
+refused_text r =
     codes "refused "
-    ++ (decimal number ++ (codes " " ++ (layer ++ (codes " " ++ (decimal plate ++ (codes " " ++ (decimal byte ++ codes "\n")))))))
+    ++ (decimal (number_of (refusal_of r.fault))
+    ++ (codes " " ++ (layer_of r.fault ++ (codes " " ++ (decimal r.plate ++ (codes " " ++ decimal r.byte))))))
 
+-- in a line of its own
 abbrev pub refused_line : Refused → List ℕ
-refused_line r = line_of (number_of (refusal_of r.fault)) (layer_of r.fault) r.plate r.byte
+refused_line r = refused_text r ++ codes "\n"
 
 abbrev pub printed : Option Refused → List ℕ
 printed (Some refused) = refused_line refused

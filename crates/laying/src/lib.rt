@@ -3,11 +3,13 @@
 // The definition is specs/Printout.antt, and in prose docs/LAY.md.
 #![tactic(auto)]
 
-ghost use Rattle.std.specs.Prelude.{◌≡◌, length, IfOk, string_bytes};
-ghost use Rattle.laying.specs.Printout.{refused_by, line_of, refused_line, printed};
+ghost use Rattle.std.specs.Prelude.{◌≡◌, length, Some, IfOk, string_bytes};
+ghost use Rattle.std.specs.Result.{result_err};
+ghost use Rattle.laying.specs.Printout.{refused_by, refused_text, refused_line, printed};
 
 use refusal::{Fault, Refusal};
 use std::alloc::{AllocError, Global};
+use std::fmt;
 
 // The longest input in bytes.
 pub const LONGEST_INPUT: usize = 65_536;
@@ -22,51 +24,42 @@ pub struct Refused {
     pub byte: usize,
 }
 
-// What is refused of an input before a plate is read.
-pub fn refused_by(input: &[u8]) -> Option<Refused>
-    ensures { result ≡ refused_by (length input.now) }
+// What is refused of an input before a plate is read. By two `if`: `unless` answers a refusal without plate and byte.
+pub fn refused_by(input: &[u8]) -> Result<(), Refused>
+    ensures { result_err result ≡ refused_by (length input.now) }
 {
     if input.len() > LONGEST_INPUT {
-        return Some(Refused {
+        return Err(Refused {
             fault: Fault::Input(Refusal::InputLength),
             plate: 0,
             byte: LONGEST_INPUT,
         });
     }
     if input.len() < HEADER_LENGTH {
-        return Some(Refused {
+        return Err(Refused {
             fault: Fault::Plate(Refusal::PlateHeader),
             plate: 0,
             byte: 0,
         });
     }
-    None
+    Ok(())
 }
 
-fn line(
-    heap: Global,
-    number: u8,
-    layer: &str,
-    plate: usize,
-    byte: usize,
-) -> Result<String, AllocError>
-    ensures { IfOk result (λ text. string_bytes text ≡ line_of number layer.now plate byte) }
-{
-    format!(in heap; "refused {number} {layer} {plate} {byte}\n")
+impl fmt::Display for Refused {
+    ghost output = { λ r. Some (refused_text r) };
+
+    fn fmt<W: fmt::Write>(&self, f: &mut fmt::Formatter<W>) -> fmt::Result {
+        let number = self.fault.refusal().number();
+        let layer = self.fault.layer();
+        write!(f, "refused {number} {layer} {} {}", self.plate, self.byte)
+    }
 }
 
-// The line that tells a refusal.
+// The line that tells a refusal: what `Display` writes, and the line's end. It is public, for callers that print the line alone.
 pub fn refused_line(heap: Global, refused: Refused) -> Result<String, AllocError>
     ensures { IfOk result (λ text. string_bytes text ≡ refused_line refused) }
 {
-    let number = refused.fault.refusal().number();
-    line(
-        heap,
-        number,
-        refused.fault.layer(),
-        refused.plate,
-        refused.byte,
-    )
+    format!(in heap; "{refused}\n")
 }
 
 // All that `lay` prints for an input.
@@ -74,7 +67,7 @@ pub fn printout(heap: Global, input: &[u8]) -> Result<String, AllocError>
     ensures { IfOk result (λ text. string_bytes text ≡ printed (refused_by (length input.now))) }
 {
     match refused_by(input) {
-        Some(refused) => refused_line(heap, refused),
-        None => Ok(String::new(heap)),
+        Err(refused) => refused_line(heap, refused),
+        Ok(()) => Ok(String::new(heap)),
     }
 }

@@ -3,14 +3,8 @@ use Rattle.std.proofs.Common.{◌≡◌, ℕ, ◌+◌, ◌*◌, ◌/◌, ◌%◌
 use lib.Arith.{digits_lt}
 use Rattle.std.proofs.lemmas.Nat.{div-mul-add, mod-mul-add, mul-le}
 
--- the last digit's values, all of them, end by the product of the counts
-pub row_below : (a A b B D : ℕ) → a < A → b < B → (a * B + b) * D + D ≤ A * B * D
-row_below a A b B D ha hb = let high = digits_lt ha hb in omega (arith, mul-le (a * B + b + 1) D (A * B) D (omega arith) (omega arith))
-
-module _ {a A b B d D : ℕ} (ha : a < A) (hb : b < B) (hd : d < D) where
-  -- so a number is below that product
-  pub number_below : (a * B + b) * D + d < A * B * D
-  number_below = omega (arith, row_below a A b B D ha hb)
+pub number_below : {a A b B d D : ℕ} → a < A → b < B → d < D → (a * B + b) * D + d < A * B * D
+number_below ha hb hd = digits_lt (digits_lt ha hb) hd
 
 -- what the first two digits write is no more than the whole number
 pub high_le : (a b B d D : ℕ) → d < D → a * B + b ≤ (a * B + b) * D + d

@@ -1,8 +1,8 @@
--- How the two makes of store number the places of a slice of samples.
-use Rattle.std.specs.Prelude.{◌≡◌, ℕ, ◌+◌, ◌*◌, ◌/◌, ◌≤◌, Bool, true, false, cond, ◌&&◌, ◌||◌, List, length, drop, Option, MatchOption, ◌==◌, nat_lt, slice_index_or, Float}
+-- How the places of a store may be numbered among the samples of a slice.
+use Rattle.std.specs.Prelude.{◌≡◌, ℕ, ◌+◌, ◌*◌, ◌/◌, ◌^◌, ◌<◌, ◌≤◌, Bool, true, false, cond, ◌&&◌, ◌||◌, List, length, drop, Option, MatchOption, ◌==◌, nat_lt, slice_index_or, Float}
 use Rattle.std.specs.Float.{nan}
 use Rattle.std.specs.Borrow.{GName}
-use Rattle.store.specs.Held.{Held}
+use Rattle.store.specs.Held.{Held, inside}
 
 -- the longest side that a store has
 abbrev pub longest : ℕ
@@ -19,13 +19,21 @@ in_range slow slows middle middles fast fasts = nat_lt slow slows && (nat_lt mid
 abbrev pub number_of : (slow middle middles fast fasts : ℕ) → ℕ
 number_of slow middle middles fast fasts = (slow * middles + middle) * fasts + fast
 
--- plane after plane, each row after row
-abbrev pub planar_number : ℕ → ℕ → ℕ → ℕ → ℕ → ℕ
-planar_number columns rows p c r = number_of p r rows c columns
+-- what is answered for digits: their number where they are in range, but None past 64 bits
+abbrev pub Told : Bool → ℕ → Option ℕ → Type 0
+Told has number r = MatchOption r (has ≡ true → 2 ^ 64 ≤ number) (λ n. (has ≡ true) × (n ≡ number))
 
--- row after row, each column with all its planes
-abbrev pub interleaved_number : ℕ → ℕ → ℕ → ℕ → ℕ → ℕ
-interleaved_number columns planes p c r = number_of r c columns p planes
+-- what is answered for a place: its number, below the limit, where it is inside
+abbrev pub Found : Bool → ℕ → ℕ → Option ℕ → Type 0
+Found has number limit r = MatchOption r (has ≡ false) (λ n. (has ≡ true) × (n ≡ number) × (n < limit))
+
+-- What makes an order of numbers of places, by the columns, the rows and the planes, and a stride, by the planes:
+-- each place inside has a number of its own, below the number of places, and the numbers of a row lie a stride apart.
+pub record Numbers (number : ℕ → ℕ → ℕ → ℕ → ℕ → ℕ → ℕ) (stride : ℕ → ℕ) : Type 0 where
+  pub below : (h : Held) (p c r : ℕ) → inside h p c r ≡ true → number h.columns h.rows h.planes p c r < h.planes * h.rows * h.columns
+  pub apart : (h : Held) (p c r q d s : ℕ) → inside h p c r ≡ true → inside h q d s ≡ true → number h.columns h.rows h.planes p c r ≡ number h.columns h.rows h.planes q d s → (p ≡ q) × (c ≡ d) × (r ≡ s)
+  pub along : (columns rows planes p c r : ℕ) → number columns rows planes p c r ≡ number columns rows planes p 0 r + c * stride planes
+  pub wide : (planes : ℕ) → 0 < planes → 0 < stride planes
 
 -- a store over samples, by the number of each place
 abbrev pub held_by : (ℕ → ℕ → ℕ → ℕ) → List Float → GName → ℕ → ℕ → Held
@@ -39,14 +47,6 @@ held_by number samples name columns rows =
       lent = name;
     }
 
-abbrev pub planar : List Float → GName → ℕ → ℕ → Held
-planar samples name columns rows = held_by (planar_number columns rows) samples name columns rows
-
-abbrev pub interleaved : List Float → GName → ℕ → ℕ → Held
-interleaved samples name columns rows =
-    held_by (interleaved_number columns (planes_of (length samples) columns rows)) samples name columns rows
-
--- what a search for a run answers: None where the store has not all of it, else the number of its first place.
--- Of `count` samples from there on, all are below the limit.
-abbrev pub Found : Bool → ℕ → ℕ → ℕ → Option ℕ → Type 0
-Found has number count limit r = MatchOption r (has ≡ false) (λ n. (has ≡ true) × (n ≡ number) × (n + count ≤ limit))
+abbrev pub ordered : (ℕ → ℕ → ℕ → ℕ → ℕ → ℕ → ℕ) → List Float → GName → ℕ → ℕ → Held
+ordered number samples name columns rows =
+    held_by (number columns rows (planes_of (length samples) columns rows)) samples name columns rows

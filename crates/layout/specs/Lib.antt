@@ -1,1 +1,3 @@
 pub mod Layout
+pub mod Strides
+pub mod Slices

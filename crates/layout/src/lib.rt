@@ -1,10 +1,17 @@
-// How stores number the places of a slice of samples.
-// Promise: whole planes are counted as the definition says, and a number of three digits is found exactly where each digit is in its range.
-// The definition is specs/Layout.antt, and in prose docs/STORES.md.
+// Stores over a slice of samples that the caller lends, by the order in which the samples of the places lie in it.
+// Promise: whole planes are counted as the definition says, and every order of places makes a store of the slice.
+// The definitions are specs/Layout.antt and specs/Slices.antt, and in prose docs/STORES.md.
 #![tactic(auto)]
 
-ghost use Rattle.std.specs.Prelude.{◌≡◌, ◌^◌, ◌≤◌, true, MatchOption};
-ghost use Rattle.layout.specs.Layout.{planes_of, in_range, number_of};
+ghost use Rattle.std.specs.Prelude.{◌≡◌};
+ghost use Rattle.layout.specs.Layout.{planes_of, in_range, number_of, Told};
+
+mod order;
+mod runs;
+mod slices;
+
+pub use order::Order;
+pub use slices::SliceStore;
 
 // The longest side that a store has.
 pub const LONGEST: usize = 16_384;
@@ -24,8 +31,9 @@ pub fn planes_of(samples: usize, columns: usize, rows: usize) -> usize
 pub struct Digit(pub usize, pub usize);
 
 // The number that three digits write, the slowest first; none where a digit is out of range, or the number passes 64 bits.
+// A fold over an array of digits is no plainer: the first needs no check of its own, and a closure would hold the other two.
 pub fn number_of(slow: Digit, middle: Digit, fast: Digit) -> Option<usize>
-    ensures { MatchOption result (((in_range slow.0 slow.1 middle.0 middle.1 fast.0 fast.1) ≡ true) → 2 ^ 64 ≤ number_of slow.0 middle.0 middle.1 fast.0 fast.1) (λ n. (in_range slow.0 slow.1 middle.0 middle.1 fast.0 fast.1 ≡ true) × (n ≡ number_of slow.0 middle.0 middle.1 fast.0 fast.1)) }
+    ensures { Told (in_range slow.0 slow.1 middle.0 middle.1 fast.0 fast.1) (number_of slow.0 middle.0 middle.1 fast.0 fast.1) result }
 {
     if slow.0 >= slow.1 || middle.0 >= middle.1 || fast.0 >= fast.1 {
         return None;

@@ -1,7 +1,6 @@
 // Rows of a picture read from positions that no i32 reaches.
-use picture::Grid;
+use picture::{Grid, Picture};
 use region::Region;
-use steps::fill_far;
 
 fn far(x: i64, y: i64, into: &mut [f32]) -> bool {
     let Ok(region) = Region::with_size(2, 1) else {
@@ -9,7 +8,7 @@ fn far(x: i64, y: i64, into: &mut [f32]) -> bool {
     };
     match Grid::new(1, region, &[0.5f32, 0.25], 0) {
         Ok(grid) => {
-            fill_far(&grid, 0, x, y, into);
+            grid.fill_far(0, x, y, into);
             true
         }
         Err(_) => false,

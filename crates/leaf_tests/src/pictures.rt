@@ -11,10 +11,7 @@ fn refusal<T: Sample>(
     samples: &[T],
     depth: u32,
 ) -> Option<Refusal> {
-    match Grid::new(channels, region, samples, depth) {
-        Ok(_) => None,
-        Err(refusal) => Some(refusal),
-    }
+    Grid::new(channels, region, samples, depth).err()
 }
 
 #[test]
@@ -43,10 +40,8 @@ fn grids_that_are_refused(rt: HostRuntime) -> Result<(), Fail> {
 
 // the sample that a grid shows, if it is one
 fn shown<T: Sample>(region: Region, samples: &[T], depth: u32, x: i32, y: i32) -> Option<f32> {
-    match Grid::new(1, region, samples, depth) {
-        Ok(grid) => Some(grid.sample(0, x, y)),
-        Err(_) => None,
-    }
+    let grid = Grid::new(1, region, samples, depth).ok()?;
+    Some(grid.sample(0, x, y))
 }
 
 // whether a grid has a row, and how long it is
@@ -56,10 +51,8 @@ fn row_length<T: Sample>(
     channel: usize,
     row: usize,
 ) -> Option<usize> {
-    match Grid::new(1, region, samples, T::depth_limit()) {
-        Ok(grid) => Some(grid.get_row(channel, row)?.len()),
-        Err(_) => None,
-    }
+    let grid = Grid::new(1, region, samples, T::depth_limit()).ok()?;
+    Some(grid.get_row(channel, row)?.len())
 }
 
 fn fill<T: Sample>(region: Region, samples: &[T], x: i32, into: &mut [f32]) -> bool {

@@ -10,7 +10,8 @@ use Rattle.blend.specs.declared.records.BlendingInfo.{BlendingInfo}
 use Rattle.blend.specs.Tables.{frame_mode, formula}
 use Rattle.machine.specs.declared.calls.FrameRecord.{FrameRecord}
 use Rattle.machine.specs.Calls.{Canvas, Call, opening, patching, blending, abandoning, clearing}
-use Rattle.machine.specs.Checks.{Setup, Size, channels_of, count_fits, frame_info, record_of}
+use Rattle.machine.specs.Checks.{Setup, channels_of, count_fits, frame_info, record_of}
+use Rattle.machine.specs.declared.calls.Size.{Size}
 use Rattle.machine.specs.Machine.{Work, Frame, begun, on_canvas, covered, canvas_of, blended, no_frame_info, filled, with_frame, frame_patched, work_blended, on_frame, taken, refusal, unless_refused, next, run, answers, show}
 use Rattle.machine.specs.Laws.{Whole, AllOf, Apart, OnlySlot, Exchange, calls_of}
 use Rattle.machine.proofs.Wholes.{AllTaken, accepted_taken, after, after_append, run_after, taken_append, taken_parts, picture, finished, Fine, Ready, whole_after, whole_taken, whole_fine, taken_accepted}

@@ -14,8 +14,10 @@ use Rattle.blend.specs.Tables.{frame_mode, patch_mode, formula}
 use Rattle.machine.specs.declared.calls.Header.{Header}
 use Rattle.machine.specs.declared.calls.FrameRecord.{FrameRecord}
 use Rattle.machine.specs.declared.calls.Shown.TheVariants.{Outside, Sample}
-use Rattle.machine.specs.Calls.{Canvas, Image, Patch, Stamp, Call, opening, patching, blending, abandoning, clearing, refused}
-use Rattle.machine.specs.Checks.{Setup, Size, Check, fits_store, channels_of, patch_info, record_of, open_checks, patch_checks, ticket_checks, closed, first_broken, ◌unless◌, slots_of_stage}
+use Rattle.machine.specs.Calls.{Canvas, Image, Patch, Call, opening, patching, blending, abandoning, clearing, refused}
+use Rattle.machine.specs.declared.calls.Stamp.{Stamp}
+use Rattle.machine.specs.Checks.{Setup, Check, fits_store, channels_of, patch_info, record_of, open_checks, patch_checks, ticket_checks, closed, first_broken, ◌unless◌, slots_of_stage}
+use Rattle.machine.specs.declared.calls.Size.{Size}
 use Rattle.machine.specs.Machine.{Work, Frame, begun, covered, canvas_of, copied, patched, blended, by_patch, no_patch_info, no_frame_info, filled, taken, open_number, refusal, unless_refused, given, next, run, answers, show, shown_of}
 use Rattle.machine.specs.Laws.{Alike, Crop, Shift, call_moved, OriginAllowed, AllOf}
 

@@ -3,8 +3,10 @@ use Rattle.std.proofs.Common.{◌≡◌, ℕ, Bool, true, false, cond, ◌&&◌,
 use Rattle.std.proofs.lemmas.Bool.{cond-false, and_from, eq-eqb, not_from_true, not-false}
 use Rattle.refusal.specs.declared.Refusal.{Refusal}
 use Rattle.refusal.specs.declared.Refusal.TheVariants as why
-use Rattle.machine.specs.Calls.{Canvas, Patch, Stamp, Call, opening, patching, blending, abandoning, clearing, Answer, refused}
-use Rattle.machine.specs.Checks.{Setup, Size, Check, fits_store, frame_info, open_checks, patch_checks, closed, checks, first_broken, ◌unless◌}
+use Rattle.machine.specs.Calls.{Canvas, Patch, Call, opening, patching, blending, abandoning, clearing, Answer, refused}
+use Rattle.machine.specs.declared.calls.Stamp.{Stamp}
+use Rattle.machine.specs.Checks.{Setup, Check, fits_store, frame_info, open_checks, patch_checks, closed, checks, first_broken, ◌unless◌}
+use Rattle.machine.specs.declared.calls.Size.{Size}
 use Rattle.machine.specs.Machine.{Work, Frame, copied, patched, with_frame, work_blended, taken, open_number, refusal, unless_refused, next, answer, given, run, answers}
 use Rattle.machine.specs.Laws.{Whole, AllOf, Accepted, header_numbered, calls_of}
 

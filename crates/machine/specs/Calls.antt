@@ -6,6 +6,7 @@ use Rattle.machine.specs.declared.calls.Header.{Header}
 use Rattle.machine.specs.declared.calls.FrameRecord.{FrameRecord}
 use Rattle.machine.specs.declared.calls.PatchRecord.{PatchRecord}
 use Rattle.machine.specs.declared.calls.Rectangle.{Rectangle}
+use Rattle.machine.specs.declared.calls.Stamp.{Stamp}
 
 -- one float for each channel and position
 abbrev pub Canvas : Type 0
@@ -24,11 +25,6 @@ pub record Patch : Type 0 where
   pub y : ℤ
   pub records : List PatchRecord
   pub sheet : Image
-
--- a ticket is the stage's mark and the frame's number
-pub record Stamp : Type 0 where
-  pub mark : ℕ
-  pub number : ℕ
 
 pub data Call : Type 0 where
   opening : Header → List FrameRecord → Image → Call

@@ -1,5 +1,6 @@
 -- What start takes, and why a call is refused: conditions in the order in which they are looked at.
 use Rattle.std.specs.Prelude.{ℕ, suc, ◌+◌, ◌-◌, ◌*◌, Bool, true, false, cond, not, ◌&&◌, ◌||◌, ltb, leb, List, [], ◌∷◌, ◌++◌, length, Some, None, Option, ◌==◌, nat_eq, nat_le, nat_lt, slice_index_or}
+use Rattle.std.specs.List.{list_any}
 use Rattle.refusal.specs.declared.Refusal.{Refusal}
 use Rattle.refusal.specs.declared.Refusal.TheVariants as why
 use Rattle.region.specs.declared.Region.{Region}
@@ -13,12 +14,14 @@ use Rattle.blend.specs.declared.modes.PatchBlendMode.{PatchBlendMode}
 use Rattle.blend.specs.declared.modes.PatchBlendMode.TheVariants as patch
 use Rattle.blend.specs.declared.records.BlendingInfo.{BlendingInfo}
 use Rattle.blend.specs.declared.records.PatchBlendingInfo.{PatchBlendingInfo}
-use Rattle.blend.specs.Modes.{has_extra_lem, frame_reads_alpha, patch_reads_alpha}
+use Rattle.blend.specs.Modes.{any_extra, frame_reads_alpha, patch_reads_alpha}
 use Rattle.machine.specs.declared.calls.Header.{Header}
 use Rattle.machine.specs.declared.calls.FrameRecord.{FrameRecord}
 use Rattle.machine.specs.declared.calls.PatchRecord.{PatchRecord}
 use Rattle.machine.specs.declared.calls.Rectangle.{Rectangle}
-use Rattle.machine.specs.Calls.{Image, Patch, Stamp, Call, opening, patching, blending, abandoning, clearing}
+use Rattle.machine.specs.declared.calls.Size.{Size}
+use Rattle.machine.specs.declared.calls.Stamp.{Stamp}
+use Rattle.machine.specs.Calls.{Image, Patch, Call, opening, patching, blending, abandoning, clearing}
 
 -- ---- numbers, and what they stand for once they are checked
 
@@ -51,17 +54,7 @@ pub record Setup : Type 0 where
 abbrev pub channels_of : Setup → ℕ
 channels_of s = s.colors + length s.kinds
 
--- the sizes of the store, which are told and never change
-pub record Size : Type 0 where
-  pub columns : ℕ
-  pub rows : ℕ
-  pub planes : ℕ
-
 -- ---- conditions
-
-abbrev pub any_of : {X : Type 0} → (X → Bool) → List X → Bool
-any_of test [] = false
-any_of test (x ∷ xs) = test x || any_of test xs
 
 -- the first condition that holds, if one does
 pub record Check : Type 0 where
@@ -91,7 +84,7 @@ fits_store size s =
 abbrev pub start_checks : Size → Region → ℕ → List ℕ → List Check
 start_checks size region colors kinds =
     (why.RegionLimits unless is_allowed region)
-    ∷ ((why.ChannelKinds unless ((colors == 1 || colors == 3) && (nat_le (length kinds) 8 && not (any_of (ltb 2) kinds))))
+    ∷ ((why.ChannelKinds unless ((colors == 1 || colors == 3) && (nat_le (length kinds) 8 && not (list_any (ltb 2) kinds))))
     ∷ ((why.StoreSize
     unless ((size.columns == region.width && size.rows == region.height) && nat_le (planes_needed (colors + length kinds)) size.planes))
     ∷ []))
@@ -111,7 +104,7 @@ frame_allowed h = (side_allowed h.width && side_allowed h.height) && (place_allo
 
 -- a record that reads alpha names an extra channel that exists
 abbrev pub frame_alpha_missing : Setup → FrameRecord → Bool
-frame_alpha_missing s r = frame_reads_alpha (has_extra_lem s.kinds) (frame_mode_of r.mode) && nat_le (length s.kinds) r.alpha
+frame_alpha_missing s r = frame_reads_alpha (any_extra s.kinds) (frame_mode_of r.mode) && nat_le (length s.kinds) r.alpha
 
 abbrev pub patch_alpha_missing : Setup → PatchRecord → Bool
 patch_alpha_missing s r = patch_reads_alpha (patch_mode_of r.mode) && nat_le (length s.kinds) r.alpha
@@ -119,10 +112,10 @@ patch_alpha_missing s r = patch_reads_alpha (patch_mode_of r.mode) && nat_le (le
 abbrev pub open_checks : Setup → Header → List FrameRecord → Image → List Check
 open_checks s h records image =
     (why.FrameLimits unless frame_allowed h)
-    ∷ ((why.SlotNumber unless (nat_lt h.target slots_of_stage && not (any_of (λ r. leb slots_of_stage r.source) records)))
+    ∷ ((why.SlotNumber unless (nat_lt h.target slots_of_stage && not (list_any (λ r. leb slots_of_stage r.source) records)))
     ∷ ((why.RecordCount unless count_fits s records)
-    ∷ ((why.ModeNumber unless not (any_of (λ r. ltb 4 r.mode) records))
-    ∷ ((why.MissingAlpha unless not (any_of (frame_alpha_missing s) records)) ∷ image_checks s image))))
+    ∷ ((why.ModeNumber unless not (list_any (λ r. ltb 4 r.mode) records))
+    ∷ ((why.MissingAlpha unless not (list_any (frame_alpha_missing s) records)) ∷ image_checks s image))))
 
 -- the rectangle has both sides and lies inside the sheet
 abbrev pub rectangle_inside : Rectangle → Region → Bool
@@ -133,11 +126,14 @@ rectangle_inside r sheet =
 abbrev pub patch_checks : Setup → Patch → List Check
 patch_checks s p =
     (why.RecordCount unless count_fits s p.records)
-    ∷ ((why.ModeNumber unless not (any_of (λ r. ltb 7 r.mode) p.records))
-    ∷ ((why.MissingAlpha unless not (any_of (patch_alpha_missing s) p.records))
+    ∷ ((why.ModeNumber unless not (list_any (λ r. ltb 7 r.mode) p.records))
+    ∷ ((why.MissingAlpha unless not (list_any (patch_alpha_missing s) p.records))
     ∷ (image_checks s p.sheet
     ++ ((why.PatchRectangle unless rectangle_inside p.rectangle p.sheet.region)
     ∷ ((why.PatchPlace unless (place_allowed p.x && place_allowed p.y)) ∷ [])))))
+
+abbrev pub slot_check : ℕ → List Check
+slot_check slot = (why.SlotNumber unless ltb slot slots_of_stage) ∷ []
 
 -- what the arguments of a call decide
 abbrev pub argument_checks : Setup → Call → List Check
@@ -145,7 +141,7 @@ argument_checks s (opening h records image) = open_checks s h records image
 argument_checks s (patching stamp p) = patch_checks s p
 argument_checks s (blending stamp) = []
 argument_checks s (abandoning stamp) = []
-argument_checks s (clearing slot) = (why.SlotNumber unless ltb slot slots_of_stage) ∷ []
+argument_checks s (clearing slot) = slot_check slot
 
 -- a ticket against the number of the open frame
 abbrev pub ticket_checks : Setup → Option ℕ → Stamp → List Check
@@ -156,15 +152,25 @@ abbrev pub closed : Option ℕ → Bool
 closed None = true
 closed (Some number) = false
 
--- what the open frame's number and the last blended one decide; drawing needs a store that has every position
+-- opening a frame: none is open, its number is above the last one, and the store has every position
+abbrev pub open_state : (current : Option ℕ) (last number : ℕ) (fits : Bool) → List Check
+open_state current last number fits =
+    (why.FrameOpen unless closed current) ∷ ((why.FrameNumber unless ltb last number) ∷ ((why.OutsideStore unless fits) ∷ []))
+
+-- drawing on the open frame, or from it: its ticket, and the store has every position
+abbrev pub draw_state : Setup → (current : Option ℕ) → Stamp → (fits : Bool) → List Check
+draw_state s current stamp fits = ticket_checks s current stamp ++ ((why.OutsideStore unless fits) ∷ [])
+
+abbrev pub clear_state : (current : Option ℕ) → List Check
+clear_state current = (why.FrameOpen unless closed current) ∷ []
+
+-- what the open frame's number and the last blended one decide
 abbrev pub state_checks : Size → Setup → Option ℕ → ℕ → Call → List Check
-state_checks size s number last (opening h records image) =
-    (why.FrameOpen unless closed number)
-    ∷ ((why.FrameNumber unless ltb last h.number) ∷ ((why.OutsideStore unless fits_store size s) ∷ []))
-state_checks size s number last (patching stamp p) = ticket_checks s number stamp ++ ((why.OutsideStore unless fits_store size s) ∷ [])
-state_checks size s number last (blending stamp) = ticket_checks s number stamp ++ ((why.OutsideStore unless fits_store size s) ∷ [])
+state_checks size s number last (opening h records image) = open_state number last h.number (fits_store size s)
+state_checks size s number last (patching stamp p) = draw_state s number stamp (fits_store size s)
+state_checks size s number last (blending stamp) = draw_state s number stamp (fits_store size s)
 state_checks size s number last (abandoning stamp) = ticket_checks s number stamp
-state_checks size s number last (clearing slot) = (why.FrameOpen unless closed number) ∷ []
+state_checks size s number last (clearing slot) = clear_state number
 
 abbrev pub checks : Size → Setup → Option ℕ → ℕ → Call → List Check
 checks size s number last call = argument_checks s call ++ state_checks size s number last call
@@ -172,18 +178,3 @@ checks size s number last call = argument_checks s call ++ state_checks size s n
 -- the record of a channel: the first for colours, then one for each extra channel
 abbrev pub record_of : {X : Type 0} → X → ℕ → List X → ℕ → X
 record_of none colors records c = slice_index_or records (cond (nat_lt c colors) 0 (suc (c - colors))) none
-
--- ---- the same by the call
-
-abbrev pub slot_check : ℕ → List Check
-slot_check slot = (why.SlotNumber unless ltb slot slots_of_stage) ∷ []
-
-abbrev pub open_state : (current : Option ℕ) (last number : ℕ) (fits : Bool) → List Check
-open_state current last number fits =
-    (why.FrameOpen unless closed current) ∷ ((why.FrameNumber unless ltb last number) ∷ ((why.OutsideStore unless fits) ∷ []))
-
-abbrev pub draw_state : Setup → (current : Option ℕ) → Stamp → (fits : Bool) → List Check
-draw_state s current stamp fits = ticket_checks s current stamp ++ ((why.OutsideStore unless fits) ∷ [])
-
-abbrev pub clear_state : (current : Option ℕ) → List Check
-clear_state current = (why.FrameOpen unless closed current) ∷ []

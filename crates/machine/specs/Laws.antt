@@ -5,7 +5,8 @@ use Rattle.region.specs.Positions.{has, Holds}
 use Rattle.machine.specs.declared.calls.Header.{Header}
 use Rattle.machine.specs.declared.calls.FrameRecord.{FrameRecord}
 use Rattle.machine.specs.Calls.{Image, Patch, Call, opening, patching, blending, abandoning, clearing, Answer, done, opened, refused}
-use Rattle.machine.specs.Checks.{Setup, Size, fits_store}
+use Rattle.machine.specs.Checks.{Setup, fits_store}
+use Rattle.machine.specs.declared.calls.Size.{Size}
 use Rattle.machine.specs.Machine.{begun, drawn, run, answers, show}
 
 -- two stages that start alike: one mark, one colour count, one list of kinds, and each has a store that its start takes

@@ -14,7 +14,8 @@ use Rattle.machine.specs.declared.calls.Header.{Header}
 use Rattle.machine.specs.declared.calls.Shown.{Shown}
 use Rattle.machine.specs.declared.calls.Shown.TheVariants.{Outside, Empty, Sample}
 use Rattle.machine.specs.Calls.{Canvas, Image, Patch, Call, opening, patching, blending, abandoning, clearing, Answer, done, opened, refused}
-use Rattle.machine.specs.Checks.{Setup, Size, channels_of, frame_info, patch_info, record_of, checks, first_broken, start_checks, kind_of, slots_of_stage}
+use Rattle.machine.specs.Checks.{Setup, channels_of, frame_info, patch_info, record_of, checks, first_broken, start_checks, kind_of, slots_of_stage}
+use Rattle.machine.specs.declared.calls.Size.{Size}
 
 -- ---- what is drawn where
 

@@ -1,28 +1,19 @@
--- Elements read through a map, and buffers that are filled place by place or in two parts.
-use Rattle.std.proofs.Common.{◌≡◌, ℕ, ◌+◌, ◌-◌, ◌<◌, ◌≤◌, List, ◌++◌, map, length, get_or, take, drop, set, sym, ap, ◌∙◌, ⊎_elim, arith}
+-- Buffers that are filled in two parts.
+use Rattle.std.proofs.Common.{◌≡◌, ℕ, ◌+◌, ◌-◌, ◌<◌, ◌≤◌, List, ◌++◌, length, get_or, take, drop, ap, ◌∙◌, ⊎_elim, arith}
 use borrow.Rule.Slice.PartMut.{put_mid, post_of}
 use lib.Ieee.{Float, nan}
-use Rattle.std.proofs.lemmas.List.Edits.{fill_by_more}
-use Rattle.std.proofs.lemmas.List.{get_or_append_left, get_or-append_right, get_or-map, get_or-take, length-append, length-drop, length-take}
+use Rattle.std.proofs.lemmas.List.{get_or_append_left, get_or-append_right, get_or-take, length-append, length-drop, length-take}
 use Rattle.std.proofs.lemmas.Bool.{cases_lt}
-
--- what the element in hand gives stands at its place
-pub map_read : {X : Type 0} (f : X → Float) (xs : List X) (k : ℕ) (x : X) (d : Float) → k < length xs → x ≡ get_or xs k x → f x ≡ get_or (map f xs) k d
-map_read f xs k x d h e = ap f e ∙ sym (get_or-map f xs k x d h)
-
--- what is written at i is what the place is to hold
-pub fill_more : (f : ℕ → Float) (xs : List Float) (i : ℕ) (v : Float) → i < length xs → v ≡ f i → ((k : ℕ) → k < i → get_or xs k nan ≡ f k) → (k : ℕ) → k < i + 1 → get_or (set xs i v) k nan ≡ f k
-fill_more f xs i v h e below k l = ap (λ w. get_or (set xs i w) k nan) e ∙ fill_by_more f xs i nan h below k l
 
 -- after a write to the first n places, and to those from n on
 module _ (f : ℕ → Float) (xs first second : List Float) (n : ℕ) where
   abbrev pub halfway : List Float
-  halfway = first ++ post_of 0 (n - 0) xs
+  halfway = first ++ post_of 0 n xs
 
   abbrev pub upper : List Float
   upper = take (length halfway - n) (drop n halfway)
 
-  pub two_parts : n ≤ length xs → length first ≡ length (take (n - 0) xs) → length second ≡ length upper → ((k : ℕ) → k < n → get_or first k nan ≡ f k) → ((k : ℕ) → k < length upper → n + k < length xs → get_or second k nan ≡ f (n + k)) → (k : ℕ) → k < length xs → get_or (put_mid n (length halfway - n) halfway second) k nan ≡ f k
+  pub two_parts : n ≤ length xs → length first ≡ length (take n xs) → length second ≡ length upper → ((k : ℕ) → k < n → get_or first k nan ≡ f k) → ((k : ℕ) → k < length upper → n + k < length xs → get_or second k nan ≡ f (n + k)) → (k : ℕ) → k < length xs → get_or (put_mid n (length halfway - n) halfway second) k nan ≡ f k
   two_parts fits one two low high k h =
       let whole : length first ≡ n = one ∙ simp length-take (omega arith) in
       let same : length halfway ≡ length xs = simp (length-append, length-drop) (omega arith) in

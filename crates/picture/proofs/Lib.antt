@@ -1,4 +1,3 @@
 pub mod Buffers
-pub mod Extents
 pub mod Grids
 pub mod Values

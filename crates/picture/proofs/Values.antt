@@ -1,32 +1,28 @@
 -- What is read of a picture: beyond its region, of a blank one, and by its rows.
-use Rattle.std.proofs.Common.{◌≡◌, ℕ, Bool, true, false, cond, ◌&&◌, ltb, ℤ, pos, ◌<ℤ◌, refl, ◌∙◌, arith}
+use Rattle.std.proofs.Common.{◌≡◌, ℕ, Bool, true, false, cond, ◌&&◌, ltb, ℤ, arith}
 use lib.Ieee.{Float}
 use Rattle.std.proofs.lemmas.Int.{ints}
-use Rattle.std.proofs.lemmas.Bool.{and_left, and_right, cond_both, cond-false}
+use Rattle.std.proofs.lemmas.Bool.Decides.{nat_tests}
 use Rattle.sample.specs.Samples.{zero}
 use Rattle.region.specs.Bounds.{is_span}
 use Rattle.region.specs.Positions.{along}
-use Rattle.region.specs.declared.Region.{Region}
 use Rattle.region.proofs.Regions.{spans}
-use Rattle.picture.specs.Meaning.{Meaning, blank, shows, value_at}
+use Rattle.steps.specs.Gaps.{is_coordinate}
+use Rattle.picture.specs.Meaning.{Meaning, value_at}
 use Rattle.picture.specs.Steps.{crosses}
 
--- no axis reaches past the greatest i32
-along_past : (from at : ℤ) (size : ℕ) → is_span from size ≡ true → pos 2147483647 <ℤ at → along from size at ≡ false
-along_past from at size s h = grind (arith, ints)
+-- no axis has a coordinate that is no i32
+along_off : (from at : ℤ) (size : ℕ) → is_span from size ≡ true → is_coordinate at ≡ false → along from size at ≡ false
+along_off from at size s h = grind (arith, ints)
 
-pub value_past : (m : Meaning) (c : ℕ) (x y : ℤ) → pos 2147483647 <ℤ x → value_at m c x y ≡ zero
-value_past m c x y h =
-    cond-false _ _ _ (and_right _ _ (and_left _ _ (along_past m.region.left x m.region.width (spans m.region).0 h)))
+pub value_off_columns : (m : Meaning) (c : ℕ) (x y : ℤ) → is_coordinate x ≡ false → value_at m c x y ≡ zero
+value_off_columns m c x y h = let off = along_off m.region.left x m.region.width (spans m.region).0 h in grind (arith, nat_tests)
 
-pub value_blank : (channels : ℕ) (r : Region) (c : ℕ) (x y : ℤ) → value_at (blank channels r) c x y ≡ zero
-value_blank channels r c x y = cond_both (shows (blank channels r) c x y) zero zero (λ v. v ≡ zero) (λ _. refl) (λ _. refl)
+pub value_off_lines : (m : Meaning) (c : ℕ) (x y : ℤ) → is_coordinate y ≡ false → value_at m c x y ≡ zero
+value_off_lines m c x y h = let off = along_off m.region.top y m.region.height (spans m.region).1 h in grind (arith, nat_tests)
 
 row_first : (a b d : Bool) (v w : Float) → cond (a && (b && d)) v w ≡ cond (a && d) (cond b v w) w
-row_first true true d v w = refl
-row_first true false true v w = refl
-row_first true false false v w = refl
-row_first false b d v w = refl
+row_first a b d v w = grind (arith, nat_tests)
 
 -- the row decides first, and then the column
 pub value_by_rows : (m : Meaning) (c : ℕ) (x y : ℤ) → value_at m c x y ≡ cond (crosses m.channels m.region c y) (cond (along m.region.left m.region.width x) (m.at c x y) zero) zero
@@ -34,4 +30,4 @@ value_by_rows m c x y =
     row_first (ltb c m.channels) (along m.region.left m.region.width x) (along m.region.top m.region.height y) (m.at c x y) zero
 
 pub value_off_rows : (m : Meaning) (c : ℕ) (x y : ℤ) → crosses m.channels m.region c y ≡ false → value_at m c x y ≡ zero
-value_off_rows m c x y h = value_by_rows m c x y ∙ cond-false (crosses m.channels m.region c y) _ _ h
+value_off_rows m c x y h = grind (arith, nat_tests)

@@ -1,8 +1,9 @@
 -- Grids: how samples lie in a slice, which slices and depths are refused, and what a grid means.
-use Rattle.std.specs.Prelude.{ℕ, ◌+◌, ◌-◌, ◌*◌, ◌^◌, Bool, true, cond, ◌&&◌, ◌||◌, List, [], ◌∷◌, map, take, drop, ℤ, ◌-ℤ◌, Some, None, Option, ◌==◌, nat_le, nat_lt, slice_index_or, unsigned_abs, Float}
+use Rattle.std.specs.Prelude.{ℕ, ◌+◌, ◌-◌, ◌*◌, ◌^◌, Bool, cond, ◌&&◌, ◌||◌, List, map, take, drop, Some, None, Option, ◌==◌, nat_le, nat_lt, slice_index_or, Float}
 use Rattle.refusal.specs.declared.Refusal.{Refusal}
 use Rattle.refusal.specs.declared.Refusal.TheVariants.{GridShape, SampleDepth}
 use Rattle.sample.specs.Samples.{zero}
+use Rattle.region.specs.Positions.{column_of, row_of}
 use Rattle.region.specs.declared.Region.{Region}
 use Rattle.picture.specs.Meaning.{Meaning}
 
@@ -16,10 +17,6 @@ shape_allowed channels region samples =
 -- No kind goes deeper than 24 bits, up to which f32 counts without a gap.
 abbrev pub depth_allowed : (deepest depth : ℕ) → Bool
 depth_allowed deepest depth = (nat_le depth deepest && nat_le depth 24) && (nat_lt 0 depth || deepest == 0)
-
-abbrev pub all_of : {X : Type 0} → (X → Bool) → List X → Bool
-all_of test [] = true
-all_of test (x ∷ xs) = test x && all_of test xs
 
 -- why a grid is refused: its shape is looked at first, then depth and samples
 abbrev pub grid_refusal : (shape content : Bool) → Option Refusal
@@ -38,13 +35,6 @@ row_start region channel row = (channel * region.height + row) * region.width
 
 abbrev pub row_from : {X : Type 0} → Region → (channel row : ℕ) → List X → List X
 row_from region channel row samples = take region.width (drop (row_start region channel row) samples)
-
--- the column and the row of a position that the region has
-abbrev pub column_of : Region → ℤ → ℕ
-column_of region x = unsigned_abs (x -ℤ region.left)
-
-abbrev pub row_of : Region → ℤ → ℕ
-row_of region y = unsigned_abs (y -ℤ region.top)
 
 -- what a grid means: its samples, each by what its kind says
 abbrev pub grid_of : {X : Type 0} → (X → ℕ → Float) → ℕ → Region → List X → ℕ → Meaning

@@ -1,12 +1,8 @@
 -- Words of the inner contracts, for steps along rows; what a picture means is said without them.
-use Rattle.std.specs.Prelude.{ℕ, Bool, cond, ◌&&◌, List, map, length, ℤ, ◌-ℤ◌, int_lt, nat_lt, slice_index_or, unsigned_abs, Float}
+use Rattle.std.specs.Prelude.{ℕ, Bool, cond, ◌&&◌, List, map, length, ℤ, ◌-ℤ◌, nat_lt, slice_index_or, unsigned_abs, Float}
 use Rattle.sample.specs.Samples.{zero}
 use Rattle.region.specs.Positions.{along}
 use Rattle.region.specs.declared.Region.{Region}
-
--- how far it is from one coordinate up to another; 0 where that comes first
-abbrev pub gap_of : ℤ → ℤ → ℕ
-gap_of from to = cond (int_lt from to) (unsigned_abs (to -ℤ from)) 0
 
 -- whether a channel has a row at this coordinate
 abbrev pub crosses : ℕ → Region → (channel : ℕ) → ℤ → Bool

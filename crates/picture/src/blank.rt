@@ -34,7 +34,7 @@ impl Picture for Blank {
         0.0
     }
 
-    fn fill(&self, _channel: usize, _x: i32, _y: i32, into: &mut [f32]) {
+    fn fill_far(&self, _channel: usize, _x: i64, _y: i64, into: &mut [f32]) {
         into.fill(0.0);
     }
 }

@@ -10,11 +10,9 @@ ghost use Rattle.picture.specs.Meaning.{Meaning, value_at};
 use region::Region;
 
 pub mod blank;
-mod extent;
 pub mod grid;
 mod rows;
 mod shapes;
-mod steps;
 
 pub use blank::Blank;
 pub use grid::Grid;
@@ -37,9 +35,20 @@ pub trait Picture {
     fn fill(&self, channel: usize, x: i32, y: i32, into: &mut [f32])
         ensures { (k : ℕ) → k < length into.old → slice_index_or into.new k nan ≡ value_at (meaning self.now) channel (x +ℤ pos k) y }
     {
-        for k in 0..into.len() {
-            into[k] = match steps::right_of(x, k) {
-                Some(at) => self.sample(channel, at, y),
+        self.fill_far(channel, i64::from(x), i64::from(y), into);
+    }
+
+    // The same from any position on; 0.0 also where no i32 reaches.
+    fn fill_far(&self, channel: usize, x: i64, y: i64, into: &mut [f32])
+        ensures { (k : ℕ) → k < length into.old → slice_index_or into.new k nan ≡ value_at (meaning self.now) channel (x +ℤ pos k) y }
+    {
+        let Ok(row) = i32::try_from(y) else {
+            into.fill(0.0);
+            return;
+        };
+        for (k, place) in into.iter_mut().enumerate() {
+            *place = match steps::onward(x, k) {
+                Some(column) => self.sample(channel, column, row),
                 None => 0.0,
             };
         }

@@ -1,47 +1,34 @@
--- What is known of a plate that is not refused.
+-- What is known of a plate that passes its checks.
 use Rattle.std.proofs.Common.{◌≡◌, ℕ, ◌<◌, ◌≤◌, Bool, true, false, cond, not, leb, List, length, Some, None, Option, refl, arith}
 use Rattle.std.proofs.lemmas.Bool.{leb-true}
 use Rattle.std.proofs.lemmas.Bool.Decides.{nat_tests}
 use Rattle.refusal.specs.declared.Refusal.{Refusal}
 use Rattle.machine.specs.Checks.{first_broken, frame_allowed}
-use Rattle.plate.specs.Format.{Alike, colors_of, extras_of, header_of, length_of, header_sound, channels_allowed, formulas_hold, plate_checks}
-
-pub record Sound (bytes : List ℕ) : Type 0 where
-  pub colors : colors_of bytes ≤ 3
-  pub extras : extras_of bytes ≤ 8
-  pub width : (header_of bytes).width ≤ 16384
-  pub height : (header_of bytes).height ≤ 16384
-  pub some : 0 < length_of bytes
-  pub within : length_of bytes ≤ length bytes
+use Rattle.plate.specs.Format.{Alike, header_of, length_of, header_sound, channels_allowed, formulas_hold, plate_checks}
 
 -- a check that was passed held, and so did those after it
-passed : (fine : Bool) (why : Refusal) (later : Option Refusal) → None ≡ cond (not fine) (Some why) later → (fine ≡ true) × (None ≡ later)
+pub passed : (fine : Bool) (why : Refusal) (later : Option Refusal) → None ≡ cond (not fine) (Some why) later → (fine ≡ true) × (None ≡ later)
 passed true why later e = (refl, e)
 passed false why later e = let z : ◌≡◌ {A = ℕ} 0 1 = cc in absurd (omega arith)
 
-few-channels : (bytes : List ℕ) → channels_allowed bytes ≡ true → (colors_of bytes ≤ 3) × (extras_of bytes ≤ 8)
-few-channels bytes h = (grind (arith, nat_tests), grind (arith, nat_tests))
+pub both_passed : (one two : Bool) (why other : Refusal) → None ≡ cond (not one) (Some why) (cond (not two) (Some other) None) → (one ≡ true) × (two ≡ true)
+both_passed one two why other e = let first = passed one why _ e in (first.0, (passed two other None first.1).0)
 
-short_sides : (bytes : List ℕ) → frame_allowed (header_of bytes) ≡ true → ((header_of bytes).width ≤ 16384) × ((header_of bytes).height ≤ 16384)
-short_sides bytes h = (grind (arith, nat_tests), grind (arith, nat_tests))
+-- what the first of two checks refuses is refused whatever comes after them
+pub refused : (one two : Bool) (why other r : Refusal) (later : Option Refusal) → Some r ≡ cond (not one) (Some why) (cond (not two) (Some other) None) → Some r ≡ cond (not one) (Some why) (cond (not two) (Some other) later)
+refused false two why other r later e = e
+refused true false why other r later e = e
+refused true true why other r later e = cc
 
 has_length : (bytes : List ℕ) → formulas_hold bytes ≡ true → 0 < length_of bytes
 has_length bytes h = grind (arith, nat_tests)
 
-pub sound : (first : Option Alike) (bytes : List ℕ) → None ≡ first_broken (plate_checks first bytes) → Sound bytes
-sound first bytes e =
+-- it has some bytes, and lies within the input
+pub some_within : (first : Option Alike) (bytes : List ℕ) → None ≡ first_broken (plate_checks first bytes) → (0 < length_of bytes) × (length_of bytes ≤ length bytes)
+some_within first bytes e =
     let header = passed (header_sound bytes) _ _ e in
     let channels = passed (channels_allowed bytes) _ _ header.1 in
     let frame = passed (frame_allowed (header_of bytes)) _ _ channels.1 in
     let formulas = passed (formulas_hold bytes) _ _ frame.1 in
     let cut = passed (leb (length_of bytes) (length bytes)) _ _ formulas.1 in
-    let few = few-channels bytes channels.0 in
-    let short = short_sides bytes frame.0 in
-    record {
-      colors = few.0;
-      extras = few.1;
-      width = short.0;
-      height = short.1;
-      some = has_length bytes formulas.0;
-      within = leb-true (length_of bytes) (length bytes) cut.0;
-    }
+    (has_length bytes formulas.0, leb-true (length_of bytes) (length bytes) cut.0)

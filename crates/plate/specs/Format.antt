@@ -1,17 +1,18 @@
 -- The plate format: how a frame's numbers, records and samples lie in bytes, what they mean, and why a plate is refused.
 -- `bytes` are those from the plate's first on, up to the end of the input; past the end every byte reads as 0.
-use Rattle.std.specs.Prelude.{◌≡◌, ℕ, zero, suc, ◌+◌, ◌*◌, min, Bool, true, false, cond, not, ◌&&◌, ◌||◌, ltb, leb, List, [], ◌∷◌, map, length, take, drop, pos, Some, None, Option, ◌==◌, nat_le, nat_lt, refl}
+use Rattle.std.specs.Prelude.{◌≡◌, ℕ, ◌+◌, ◌*◌, min, Bool, true, false, cond, not, ◌&&◌, ◌||◌, ltb, leb, List, [], ◌∷◌, map, length, take, drop, pos, Some, None, Option, ◌==◌, nat_le, nat_lt, refl}
 use Rattle.std.specs.List.{range_with_len}
 use Rattle.std.specs.Str.{bytes_eq}
 use Rattle.refusal.specs.declared.Refusal.{Refusal}
 use Rattle.refusal.specs.declared.Refusal.TheVariants as why
 use Rattle.region.specs.Bounds.{is_region}
-use Rattle.picture.specs.Shapes.{column_of, row_of}
+use Rattle.region.specs.Positions.{column_of, row_of}
 use Rattle.region.specs.declared.Region.{Region}
 use Rattle.picture.specs.Meaning.{Meaning}
 use Rattle.machine.specs.declared.calls.Header.{Header}
 use Rattle.machine.specs.declared.calls.FrameRecord.{FrameRecord}
-use Rattle.machine.specs.Checks.{Check, ◌unless◌, any_of, first_broken, frame_allowed}
+use Rattle.std.specs.List.{list_any}
+use Rattle.machine.specs.Checks.{Check, ◌unless◌, first_broken, frame_allowed}
 use Rattle.byte_fields.specs.Words.{byte_at, word_at, signed_at, float_at}
 
 -- ---- the header, 64 bytes
@@ -127,11 +128,11 @@ agrees (Some first) bytes = colors_of bytes == first.colors && bytes_eq (kinds_o
 
 abbrev pub header_sound : List ℕ → Bool
 header_sound bytes =
-    (nat_le 64 (length bytes) && version_of bytes == 1) && (spare_of bytes == 0 && not (any_of (ltb 0) (unused_kinds bytes)))
+    (nat_le 64 (length bytes) && version_of bytes == 1) && (spare_of bytes == 0 && not (list_any (ltb 0) (unused_kinds bytes)))
 
 abbrev pub channels_allowed : List ℕ → Bool
 channels_allowed bytes =
-    (colors_of bytes == 1 || colors_of bytes == 3) && (nat_le (extras_of bytes) 8 && not (any_of (ltb 2) (kinds_of bytes)))
+    (colors_of bytes == 1 || colors_of bytes == 3) && (nat_le (extras_of bytes) 8 && not (list_any (ltb 2) (kinds_of bytes)))
 
 abbrev pub formulas_hold : List ℕ → Bool
 formulas_hold bytes =
@@ -142,8 +143,7 @@ formulas_hold bytes =
 
 -- whether one of the first n clamp bytes is neither 0 nor 1
 abbrev pub clamp_broken : List ℕ → ℕ → Bool
-clamp_broken bytes zero = false
-clamp_broken bytes (suc k) = nat_lt 1 (clamp_at bytes k) || clamp_broken bytes k
+clamp_broken bytes n = list_any (λ k. nat_lt 1 (clamp_at bytes k)) (range_with_len 0 n)
 
 abbrev pub content_allowed : Option Alike → List ℕ → Bool
 content_allowed first bytes = not (clamp_broken bytes (extras_of bytes + 1)) && agrees first bytes

@@ -1,7 +1,9 @@
 // The parts of a plate's header and its records, out of the bytes from its first on.
-ghost use Rattle.std.specs.Prelude.{◌≡◌, ◌≤◌, take};
+// Functions over the slice itself: a struct around it would be made anew for an input's first plate and at each check, and its clauses would say no less.
+ghost use Rattle.std.specs.Prelude.{◌≡◌, ◌≤◌};
 ghost use Rattle.plate.specs.Format.{colors_of, extras_of, header_of, length_of, kind_bytes, kinds_of, unused_kinds, record_at, records_of};
 
+use arrayvec::ArrayVec;
 use byte_fields::{byte_at, front, rest, signed_at, word_at};
 use machine::{FrameRecord, Header};
 
@@ -66,14 +68,13 @@ fn record_at(bytes: &[u8], k: usize) -> FrameRecord
     }
 }
 
-// Nine records, and how many of them are the plate's.
-pub(crate) fn records(bytes: &[u8]) -> ([FrameRecord; 9], usize)
-    ensures records { take result.1 result.0 ≡ records_of bytes.now }
-    ensures count { result.1 ≤ 9 }
+// At most nine; a plate has no more, since it has at most eight extra channels. Pushed one by one: `extend` answers a `Result` that could not be an error.
+pub(crate) fn records(bytes: &[u8]) -> ArrayVec<FrameRecord, 9>
+    ensures { result.items ≡ records_of bytes.now }
 {
-    let mut records = [record_at(bytes, 0); 9];
-    for k in 0..9 {
-        records[k] = record_at(bytes, k);
+    let mut records = ArrayVec::new();
+    for k in 0..(extras(bytes) as usize + 1).min(9) {
+        records.push(record_at(bytes, k));
     }
-    (records, (extras(bytes) as usize + 1).min(9))
+    records
 }

@@ -4,7 +4,6 @@ ghost use Rattle.std.specs.Result.{result_err};
 ghost use Rattle.plate.specs.Fields.{bytes_of, meaning_of};
 ghost use Rattle.plate.specs.Format.{length_of, plate_meaning, plate_refusal, first_alike};
 
-use crate::checks::checked;
 use crate::{Plate, parts};
 use byte_fields::rest;
 use refusal::Refusal;
@@ -46,8 +45,7 @@ impl Reader {
         ensures place { MatchResult result (λ p. (self.new.plate ≡ self.old.plate + 1) × (self.new.byte ≡ self.old.byte + length_of (drop self.old.byte input.now))) (λ _. self.new ≡ self.old) }
     {
         let bytes = rest(input, self.byte);
-        checked(self.plate, input, bytes)?;
-        let plate = Plate::of(bytes);
+        let plate = Plate::checked(self.plate, input, bytes)?;
         *self = Reader {
             plate: self.plate + 1,
             byte: self.byte + parts::length(bytes) as usize,

@@ -1,39 +1,39 @@
 // Why a call says no: every refusal of the project, by name, with the number that its users know, and the layer that refused.
-// Promise: `number` gives the number of the table, one for each name. The table is specs/Table.antt, and in prose docs/REFUSALS.md.
+// Promise: `number` gives the number of the table, one for each name; `unless` refuses exactly where something is not fine. The table is specs/Table.antt, and in prose docs/REFUSALS.md.
 #![tactic(auto)]
 
-ghost use Rattle.std.specs.Prelude.{◌≡◌};
+ghost use Rattle.std.specs.Prelude.{◌≡◌, true, false, MatchResult};
 ghost use Rattle.refusal.specs.Table.{number_of, refusal_of, layer_of};
 
 #[derive(Clone, Copy, PartialEq, Eq, Debug)]
 pub enum Refusal {
-    RegionLimits,
-    ChannelKinds,
-    StoreSize,
-    FrameLimits,
-    SlotNumber,
-    RecordCount,
-    ModeNumber,
-    MissingAlpha,
-    PictureChannels,
-    PictureLimits,
-    PatchRectangle,
-    PatchPlace,
-    NoRegion,
-    GridShape,
-    SampleDepth,
-    PlateHeader,
-    PlateFormula,
-    PlateCut,
-    PlateContent,
-    InputLength,
-    NotStarted,
-    AlreadyStarted,
-    FrameOpen,
-    NoFrameOpen,
-    WrongTicket,
-    FrameNumber,
-    OutsideStore,
+    RegionLimits = 1,
+    ChannelKinds = 2,
+    StoreSize = 3,
+    FrameLimits = 4,
+    SlotNumber = 5,
+    RecordCount = 6,
+    ModeNumber = 7,
+    MissingAlpha = 8,
+    PictureChannels = 9,
+    PictureLimits = 10,
+    PatchRectangle = 11,
+    PatchPlace = 12,
+    NoRegion = 13,
+    GridShape = 15,
+    SampleDepth = 16,
+    PlateHeader = 17,
+    PlateFormula = 18,
+    PlateCut = 19,
+    PlateContent = 20,
+    InputLength = 21,
+    NotStarted = 31,
+    AlreadyStarted = 32,
+    FrameOpen = 33,
+    NoFrameOpen = 34,
+    WrongTicket = 35,
+    FrameNumber = 36,
+    OutsideStore = 37,
 }
 
 impl Refusal {
@@ -41,35 +41,14 @@ impl Refusal {
     pub fn number(self) -> u8
         ensures { result ≡ number_of self }
     {
-        match self {
-            Refusal::RegionLimits => 1,
-            Refusal::ChannelKinds => 2,
-            Refusal::StoreSize => 3,
-            Refusal::FrameLimits => 4,
-            Refusal::SlotNumber => 5,
-            Refusal::RecordCount => 6,
-            Refusal::ModeNumber => 7,
-            Refusal::MissingAlpha => 8,
-            Refusal::PictureChannels => 9,
-            Refusal::PictureLimits => 10,
-            Refusal::PatchRectangle => 11,
-            Refusal::PatchPlace => 12,
-            Refusal::NoRegion => 13,
-            Refusal::GridShape => 15,
-            Refusal::SampleDepth => 16,
-            Refusal::PlateHeader => 17,
-            Refusal::PlateFormula => 18,
-            Refusal::PlateCut => 19,
-            Refusal::PlateContent => 20,
-            Refusal::InputLength => 21,
-            Refusal::NotStarted => 31,
-            Refusal::AlreadyStarted => 32,
-            Refusal::FrameOpen => 33,
-            Refusal::NoFrameOpen => 34,
-            Refusal::WrongTicket => 35,
-            Refusal::FrameNumber => 36,
-            Refusal::OutsideStore => 37,
-        }
+        self as u8
+    }
+
+    // The refusal, unless all is fine.
+    pub fn unless(self, fine: bool) -> Result<(), Refusal>
+        ensures { MatchResult result (λ _. fine ≡ true) (λ refusal. (refusal ≡ self) × (fine ≡ false)) }
+    {
+        if fine { Ok(()) } else { Err(self) }
     }
 }
 
@@ -82,7 +61,7 @@ pub enum Fault {
 }
 
 impl Fault {
-    // The refusal, whichever layer met it.
+    // The refusal, whichever layer met it. This and `layer` are public words, of which a printed line is made.
     pub fn refusal(self) -> Refusal
         ensures { result ≡ refusal_of self }
     {

@@ -1,11 +1,10 @@
 -- Facts of axes and regions by their positions.
 use Rattle.std.proofs.Common.{◌≡◌, ℕ, ◌<◌, Bool, true, false, ◌&&◌, ◌||◌, ltb, ℤ, pos, ◌+ℤ◌, neg_ℤ, Decides, refl, ⊎_elim, arith}
-use Rattle.std.specs.Int.{int_max, int_min}
-use Rattle.std.proofs.lemmas.Int.{ints, clamps}
+use Rattle.std.proofs.lemmas.Int.{ints}
 use Rattle.std.proofs.lemmas.Bool.{and_parts, and_from, and_left, eqb-true, lt-ltb, both_ways, cases_Bool, or_cases, or_left, or_right}
 use Rattle.std.proofs.lemmas.Bool.Decides.{nat_tests}
 use Rattle.region.specs.Bounds.{is_span, is_region}
-use Rattle.region.specs.Positions.{along, within, has, is_empty, Holds}
+use Rattle.region.specs.Positions.{along, within, has, is_empty, Holds, can_move}
 use Rattle.region.specs.declared.Region.{Region}
 
 pub along_none : (from at : ℤ) (size : ℕ) → size ≡ 0 → along from size at ≡ false
@@ -52,13 +51,6 @@ first-has r e = and_from _ _ (along-first r.left r.width (sides r e).0) (along-f
 pub last_has : (r : Region) → is_empty r ≡ false → has r (last_of r.left r.width) (last_of r.top r.height) ≡ true
 last_has r e = and_from _ _ (along-last r.left r.width (sides r e).0) (along-last r.top r.height (sides r e).1)
 
--- From the later beginning to the earlier end two axes have the same positions; where that end comes first, none.
-pub overlap_along : (a b from to at : ℤ) (m n k : ℕ) → from ≡ int_max a b → to ≡ int_max (int_min (a +ℤ pos m) (b +ℤ pos n)) from → to ≡ from +ℤ pos k → along from k at ≡ (along a m at && along b n at)
-overlap_along a b from to at m n k e f g = grind (arith, ints, clamps)
-
-pub overlap_span : (a b from to : ℤ) (m n k : ℕ) → is_span a m ≡ true → is_span b n ≡ true → from ≡ int_max a b → to ≡ int_max (int_min (a +ℤ pos m) (b +ℤ pos n)) from → to ≡ from +ℤ pos k → is_span from k ≡ true
-overlap_span a b from to m n k p q e f g = grind (arith, ints, clamps)
-
 -- what `contains` tests says whether every position of the second is one of the first
 pub covers_decides : (r s : Region) → Decides (is_empty s || (within r.left r.width s.left s.width && within r.top r.height s.top s.height)) (Holds r s)
 covers_decides r s = (
@@ -88,3 +80,14 @@ and_exchange true true c d = refl
 and_exchange true false true d = refl
 and_exchange true false false d = refl
 and_exchange false b c d = refl
+
+-- a region that is not empty can be moved if both its axes can, and only then
+module _ (r : Region) (x y : ℤ) (e : is_empty r ≡ false) where
+  pub filled_moves : is_span (r.left +ℤ x) r.width ≡ true → is_span (r.top +ℤ y) r.height ≡ true → can_move r x y ≡ true
+  filled_moves p q = or_right (is_empty r) _ (of_spans (r.left +ℤ x) (r.top +ℤ y) r.width r.height p q (sides r e).0 (sides r e).1)
+
+  pub across_stays : is_span (r.left +ℤ x) r.width ≡ false → can_move r x y ≡ false
+  across_stays h = grind arith
+
+  pub down_stays : is_span (r.top +ℤ y) r.height ≡ false → can_move r x y ≡ false
+  down_stays h = grind arith

@@ -1,5 +1,5 @@
 -- A region by its positions.
-use Rattle.std.specs.Prelude.{◌≡◌, ℕ, Bool, true, ◌&&◌, ◌||◌, ℤ, pos, ◌+ℤ◌, ◌==◌, int_le, int_lt}
+use Rattle.std.specs.Prelude.{◌≡◌, ℕ, Bool, true, ◌&&◌, ◌||◌, ℤ, pos, ◌+ℤ◌, ◌-ℤ◌, ◌==◌, int_le, int_lt, unsigned_abs}
 use Rattle.region.specs.Bounds.{is_region, side_allowed, place_allowed}
 use Rattle.region.specs.declared.Region.{Region}
 
@@ -14,6 +14,13 @@ within from size at n = int_le from at && int_le (at +ℤ pos n) (from +ℤ pos 
 -- whether a position is one of the region's
 abbrev pub has : Region → ℤ → ℤ → Bool
 has r x y = along r.left r.width x && along r.top r.height y
+
+-- the column and the row of a position that the region has
+abbrev pub column_of : Region → ℤ → ℕ
+column_of region x = unsigned_abs (x -ℤ region.left)
+
+abbrev pub row_of : Region → ℤ → ℕ
+row_of region y = unsigned_abs (y -ℤ region.top)
 
 abbrev pub is_empty : Region → Bool
 is_empty r = r.width == 0

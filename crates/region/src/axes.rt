@@ -9,7 +9,7 @@ pub fn past(from: i32, size: u32) -> i64
     i64::from(from) + i64::from(size)
 }
 
-// Whether an axis lies within another.
+// Whether an axis lies within another; asked of any numbers, also of those that no axis has.
 pub fn is_within(from: i32, size: u32, at: i32, n: u32) -> bool
     ensures { result ≡ within from size at n }
 {

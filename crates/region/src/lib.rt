@@ -10,8 +10,10 @@ pub mod axes;
 pub mod limits;
 mod methods;
 mod parts;
+mod span;
 
 // Position (x, y) is inside if left <= x < left + width and top <= y < top + height. The ends fit i32, and only (0,0,0,0) is empty.
+// Four numbers and not two axes, since the definitions of the crates above say what they mean by these four.
 #[derive(Clone, Copy, PartialEq, Eq, Debug)]
 pub struct Region {
     left: i32,

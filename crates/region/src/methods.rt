@@ -5,16 +5,10 @@ ghost use Rattle.region.specs.Bounds.{is_span, is_filled_or_empty, is_region};
 ghost use Rattle.region.specs.Positions.{along, within, has, is_empty, Holds, can_move, is_allowed};
 
 use crate::Region;
-use crate::axes::{is_within, past};
-use crate::limits::{place_allowed, side_allowed};
+use crate::axes::is_within;
+use crate::limits::rectangle_allowed;
+use crate::span::{Span, is_span};
 use refusal::Refusal;
-
-// Whether one axis fits: its end is at most the greatest i32.
-fn is_span(from: i32, size: u32) -> bool
-    ensures { result ≡ is_span from size }
-{
-    past(from, size) <= 2_147_483_647
-}
 
 // Whether neither side is 0, or all four numbers are.
 fn is_filled_or_empty(left: i32, top: i32, width: u32, height: u32) -> bool
@@ -23,86 +17,33 @@ fn is_filled_or_empty(left: i32, top: i32, width: u32, height: u32) -> bool
     width > 0 && height > 0 || width == 0 && height == 0 && left == 0 && top == 0
 }
 
+// Of four plain numbers, since no region is made yet.
 fn is_region(left: i32, top: i32, width: u32, height: u32) -> bool
     ensures { result ≡ is_region left top width height }
 {
     is_span(left, width) && is_span(top, height) && is_filled_or_empty(left, top, width, height)
 }
 
-// Where an axis that fits ends.
-pub(crate) fn end(from: i32, size: u32) -> i32
-    requires { is_span from size ≡ true }
-    ensures { result ≡ from +ℤ pos size }
-{
-    past(from, size) as i32
-}
-
-// Where one axis begins once it is moved; none where it would not fit.
-fn shifted(from: i32, size: u32, by: i32) -> Option<i32>
-    ensures { MatchOption result (is_span (from +ℤ by) size ≡ false) (λ to. (to ≡ from +ℤ by) × (is_span (from +ℤ by) size ≡ true)) }
-{
-    let to = from.checked_add(by)?;
-    if is_span(to, size) { Some(to) } else { None }
-}
-
-// How far it is from one coordinate up to another.
-fn distance(from: i32, to: i32) -> u32
-    requires { from ≤ℤ to }
-    ensures { to ≡ from +ℤ pos result }
-{
-    (i64::from(to) - i64::from(from)) as u32
-}
-
-// The part that two axes have in common: where it begins and its size, 0 where there is none.
-fn overlap(a: i32, a_size: u32, b: i32, b_size: u32) -> (i32, u32)
-    requires { (is_span a a_size ≡ true) × (is_span b b_size ≡ true) }
-    ensures positions { (at : ℤ) → along result.0 result.1 at ≡ (along a a_size at && along b b_size at) }
-    ensures span { is_span result.0 result.1 ≡ true }
-{
-    let from = a.max(b);
-    let to = end(a, a_size).min(end(b, b_size)).max(from);
-    (from, distance(from, to))
-}
-
-// The region with these axes, empty where one is.
-pub(crate) fn of_axes(left: i32, top: i32, width: u32, height: u32) -> Region
-    requires { (is_span left width ≡ true) × (is_span top height ≡ true) }
-    ensures { (x y : ℤ) → has result x y ≡ (along left width x && along top height y) }
-{
-    if width == 0 || height == 0 {
-        return Region::empty();
-    }
-    Region {
-        left,
-        top,
-        width,
-        height,
-    }
-}
-
 // Whether the target is empty, or both its axes lie within the region's.
 fn covers(region: Region, target: Region) -> bool
     ensures { result ≡ (is_empty target || (within region.left region.width target.left target.width && within region.top region.height target.top target.height)) }
 {
-    let across = is_within(region.left, region.width, target.left, target.width);
-    let down = is_within(region.top, region.height, target.top, target.height);
-    target.is_empty() || across && down
+    target.is_empty()
+        || is_within(region.left, region.width, target.left, target.width)
+            && is_within(region.top, region.height, target.top, target.height)
 }
 
 impl Region {
     pub fn new(left: i32, top: i32, width: u32, height: u32) -> Result<Region, Refusal>
         ensures { MatchResult result (λ made. (made.left ≡ left) × (made.top ≡ top) × (made.width ≡ width) × (made.height ≡ height)) (λ refusal. (refusal ≡ NoRegion) × (is_region left top width height ≡ false)) }
     {
-        if is_region(left, top, width, height) {
-            Ok(Region {
-                left,
-                top,
-                width,
-                height,
-            })
-        } else {
-            Err(Refusal::NoRegion)
-        }
+        Refusal::NoRegion.unless(is_region(left, top, width, height))?;
+        Ok(Region {
+            left,
+            top,
+            width,
+            height,
+        })
     }
 
     // The region with no position.
@@ -122,6 +63,41 @@ impl Region {
         ensures { MatchResult result (λ made. (made.left ≡ pos 0) × (made.top ≡ pos 0) × (made.width ≡ width) × (made.height ≡ height)) (λ refusal. (refusal ≡ NoRegion) × (is_region (pos 0) (pos 0) width height ≡ false)) }
     {
         Region::new(0, 0, width, height)
+    }
+
+    // The region with these axes, empty where one is.
+    pub(crate) fn of_spans(across: Span, down: Span) -> Region
+        ensures { (x y : ℤ) → has result x y ≡ (along across.from across.size x && along down.from down.size y) }
+    {
+        if across.size == 0 || down.size == 0 {
+            return Region::empty();
+        }
+        Region {
+            left: across.from,
+            top: down.from,
+            width: across.size,
+            height: down.size,
+        }
+    }
+
+    // The axis of its columns.
+    pub(crate) fn across(self) -> Span
+        ensures { (result.from ≡ self.left) × (result.size ≡ self.width) }
+    {
+        Span {
+            from: self.left,
+            size: self.width,
+        }
+    }
+
+    // The axis of its rows.
+    pub(crate) fn down(self) -> Span
+        ensures { (result.from ≡ self.top) × (result.size ≡ self.height) }
+    {
+        Span {
+            from: self.top,
+            size: self.height,
+        }
     }
 
     pub fn left(self) -> i32
@@ -160,14 +136,14 @@ impl Region {
     pub fn right(self) -> i32
         ensures { result ≡ self.left +ℤ pos self.width }
     {
-        end(self.left, self.width)
+        self.across().end()
     }
 
     // One past the last row.
     pub fn bottom(self) -> i32
         ensures { result ≡ self.top +ℤ pos self.height }
     {
-        end(self.top, self.height)
+        self.down().end()
     }
 
     // Whether every position of the target is one of this region's.
@@ -184,31 +160,15 @@ impl Region {
         if self.is_empty() {
             return Ok(self);
         }
-        let Some(left) = shifted(self.left, self.width, x) else {
-            return Err(Refusal::NoRegion);
-        };
-        let Some(top) = shifted(self.top, self.height, y) else {
-            return Err(Refusal::NoRegion);
-        };
-        Ok(of_axes(left, top, self.width, self.height))
-    }
-
-    // The positions that both have.
-    pub fn intersection(self, rhs: Region) -> Region
-        ensures { (x y : ℤ) → has result x y ≡ (has self x y && has rhs x y) }
-    {
-        let (left, width) = overlap(self.left, self.width, rhs.left, rhs.width);
-        let (top, height) = overlap(self.top, self.height, rhs.top, rhs.height);
-        of_axes(left, top, width, height)
+        let across = self.across().translate(x)?;
+        let down = self.down().translate(y)?;
+        Ok(Region::of_spans(across, down))
     }
 
     // Whether a stage works on such a region.
     pub fn is_allowed(self) -> bool
         ensures { result ≡ is_allowed self }
     {
-        side_allowed(self.width)
-            && side_allowed(self.height)
-            && place_allowed(self.left)
-            && place_allowed(self.top)
+        rectangle_allowed(self.left, self.top, self.width, self.height)
     }
 }

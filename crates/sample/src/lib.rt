@@ -10,10 +10,10 @@ use std::num::{nearest_i32_to_f32, nearest_u32_to_f32};
 
 // A sample kind. `full` is the largest sample of a bit depth, 2^depth - 1.
 pub trait Sample: Copy {
+    // the deepest bit depth; 0 for a kind that has no depth
     const DEEPEST: u32;
 
-    // the deepest bit depth, DEEPEST; 0 for a kind that has no depth
-    ghost deepest: { ℕ };
+    ghost DEEPEST: { ℕ };
 
     // whether f32 counts up to the sample without a gap
     ghost exact: { Self → Bool };
@@ -22,7 +22,10 @@ pub trait Sample: Copy {
     ghost value: { Self → ℕ → Float };
 
     fn depth_limit() -> u32
-        ensures { result ≡ deepest };
+        ensures { result ≡ DEEPEST }
+    {
+        Self::DEEPEST
+    }
 
     fn is_exact(self) -> bool
         ensures { result ≡ exact self };
@@ -34,15 +37,11 @@ pub trait Sample: Copy {
 impl Sample for f32 {
     const DEEPEST: u32 = 0;
 
-    ghost deepest = { 0 };
+    ghost DEEPEST = { 0 };
 
     ghost exact = { λ _. true };
 
     ghost value = { λ sample _. sample };
-
-    fn depth_limit() -> u32 {
-        Self::DEEPEST
-    }
 
     fn is_exact(self) -> bool {
         true
@@ -56,18 +55,14 @@ impl Sample for f32 {
 impl Sample for i32 {
     const DEEPEST: u32 = 24;
 
-    ghost deepest = { 24 };
+    ghost DEEPEST = { 24 };
 
     ghost exact = { λ sample. countable sample };
 
     ghost value = { λ sample full. part_of sample full };
 
-    fn depth_limit() -> u32 {
-        Self::DEEPEST
-    }
-
     fn is_exact(self) -> bool {
-        -16_777_216 <= self && self <= 16_777_216
+        (-16_777_216..=16_777_216).contains(&self)
     }
 
     fn to_f32(self, full: u32) -> f32 {
@@ -78,15 +73,11 @@ impl Sample for i32 {
 impl Sample for i16 {
     const DEEPEST: u32 = 15;
 
-    ghost deepest = { 15 };
+    ghost DEEPEST = { 15 };
 
     ghost exact = { λ sample. countable sample };
 
     ghost value = { λ sample full. part_of sample full };
-
-    fn depth_limit() -> u32 {
-        Self::DEEPEST
-    }
 
     fn is_exact(self) -> bool {
         i32::from(self).is_exact()

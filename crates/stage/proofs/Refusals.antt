@@ -1,6 +1,6 @@
 -- What the arguments decide, and then what the state decides, is the definition's refusal.
-use Rattle.std.proofs.Common.{◌≡◌, ℕ, suc, ◌≤◌, Bool, true, false, ◌&&◌, ltb, leb, List, [], ◌∷◌, ◌++◌, length, take, is_some, Some, None, Option, sym, ap, ◌∙◌, arith}
-use Rattle.std.specs.Option.{option_or}
+use Rattle.std.proofs.Common.{◌≡◌, ℕ, suc, ◌≤◌, Bool, true, false, ◌&&◌, ltb, leb, List, [], ◌∷◌, ◌++◌, length, take, is_some, None, Ok, Err, Result, sym, ap, ◌∙◌, arith}
+use Rattle.std.specs.Result.{result_err, result_and}
 use Rattle.std.proofs.lemmas.List.{length-take}
 use Rattle.std.proofs.lemmas.Bool.{and_parts, and_from, not-false, eqb-true, le-leb, true≢false}
 use Rattle.refusal.specs.declared.Refusal.{Refusal}
@@ -8,17 +8,20 @@ use Rattle.refusal.specs.declared.Refusal.TheVariants.{NoFrameOpen}
 use Rattle.blend.specs.declared.modes.Kind.{Kind}
 use Rattle.machine.specs.declared.calls.Header.{Header}
 use Rattle.machine.specs.declared.calls.FrameRecord.{FrameRecord}
-use Rattle.machine.specs.Calls.{Image, Stamp, opening}
-use Rattle.machine.specs.Checks.{Check, Setup, Size, checks, first_broken, draw_state, ◌unless◌}
+use Rattle.machine.specs.Calls.{Image, opening}
+use Rattle.machine.specs.declared.calls.Stamp.{Stamp}
+use Rattle.machine.specs.Checks.{Check, Setup, checks, first_broken, draw_state, ◌unless◌}
+use Rattle.machine.specs.declared.calls.Size.{Size}
 use Rattle.machine.specs.Machine.{Work, open_number, refusal}
 use Rattle.machine.proofs.Wholes.{Unbroken, none_unbroken}
 use Rattle.canvas.specs.declared.terms.Terms.{Terms}
 use Rattle.canvas.specs.Fields.{setup_from}
 use Rattle.machine.proofs.Firsts.{first_some, first_none}
 
-pub in_turn : (cs ds : List Check) (asked left : Option Refusal) → asked ≡ first_broken cs → left ≡ first_broken ds → option_or asked left ≡ first_broken (cs ++ ds)
-in_turn cs ds (Some r) left e f = e ∙ first_some cs ds (sym (ap is_some e))
-in_turn cs ds None left e f = f ∙ first_none cs ds (sym (ap is_some e))
+-- what comes first of two results, by the first broken condition of each
+pub in_turn : {X : Type 0} (cs ds : List Check) (asked left : Result X Refusal) → result_err asked ≡ first_broken cs → result_err left ≡ first_broken ds → result_err (result_and asked left) ≡ first_broken (cs ++ ds)
+in_turn cs ds (Err r) left e f = e ∙ first_some cs ds (sym (ap is_some e))
+in_turn cs ds (Ok x) left e f = f ∙ first_none cs ds (sym (ap is_some e))
 
 -- a frame that is opened has nine records at the most, and a slot for its target
 pub open_fits :

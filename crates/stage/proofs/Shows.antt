@@ -3,8 +3,7 @@ use Rattle.std.proofs.Common.{◌≡◌, ℕ, ◌+◌, ◌*◌, ◌<◌, ◌≤�
 use lib.Ieee.{Float}
 use Rattle.std.proofs.lemmas.Bool.{and_from, and_left, and_right, cond-true, cond-false, lt-ltb, le-ltb}
 use Rattle.sample.specs.Samples.{zero}
-use Rattle.region.specs.Positions.{has}
-use Rattle.picture.specs.Shapes.{column_of, row_of}
+use Rattle.region.specs.Positions.{has, column_of, row_of}
 use Rattle.store.specs.Held.{Held, seen}
 use Rattle.machine.specs.declared.calls.Shown.TheVariants.{Outside, Empty, Sample}
 use Rattle.machine.specs.Checks.{Setup, channels_of}
@@ -14,9 +13,6 @@ use Rattle.views.specs.View.{Book, canvas_at, work_at}
 module _ (s : Setup) (b : Book) (h : Held) (k c : ℕ) (x y : ℤ) where
   pub no_position : has s.region x y ≡ false → Outside ≡ show s (work_at s b h) k c x y
   no_position off = sym (cond-false _ _ _ (and_right (ltb k 4) _ (and_right (ltb c (channels_of s)) _ off)))
-
-  pub no_slot : 4 ≤ k → Outside ≡ show s (work_at s b h) k c x y
-  no_slot past = sym (cond-false _ _ _ (and_left (ltb k 4) _ (le-ltb k 4 past)))
 
   pub no_channel : channels_of s ≤ c → Outside ≡ show s (work_at s b h) k c x y
   no_channel past = sym (cond-false _ _ _ (and_right (ltb k 4) _ (and_left (ltb c (channels_of s)) _ (le-ltb c (channels_of s) past))))

@@ -1,13 +1,11 @@
--- Steps of a stage that took its terms: refused, or taken with a new book and new samples.
-use Rattle.std.proofs.Common.{◌≡◌, Some, None, Option, sym, refl, ap, ◌∙◌, subst}
-use Rattle.refusal.specs.declared.Refusal.{Refusal}
+-- Steps of a stage that took its terms: taken with a new book and new samples.
+use Rattle.std.proofs.Common.{◌≡◌, Some, None, Option, sym, subst}
 use Rattle.store.specs.Held.{Held, Changed}
-use Rattle.machine.specs.Calls.{Call, refused}
-use Rattle.machine.specs.Checks.{Setup}
+use Rattle.machine.specs.Calls.{Call}
 use Rattle.machine.specs.Machine.{given}
 use Rattle.views.specs.View.{Book, View, work_at}
-use Rattle.views.specs.Step.{Painting, painting, paints, paint_of, book_taken, refusal_at, Step}
-use Rattle.views.proofs.Steps.{unchanged, step-refused, step-taken}
+use Rattle.views.specs.Step.{Painting, painting, paints, paint_of, book_taken, Step}
+use Rattle.views.proofs.Steps.{step-taken}
 use Rattle.canvas.specs.declared.terms.Terms.{Terms}
 use Rattle.canvas.specs.Fields.{setup_from}
 use Rattle.stage.specs.declared.stage.Stage.{Stage}
@@ -18,11 +16,6 @@ abbrev pub view_with : Option Terms → Book → Held → View
 view_with terms book held = record { setup = setup_in terms; book = book; held = held }
 
 module _ {X : Type 0} (held : X → Held) (stage : Stage X) (terms : Terms) (took : stage.terms ≡ Some terms) (call : Call) where
-  pub refuses : (r : Refusal) → Some r ≡ refusal_in held stage terms call → Step (view_of held stage) call (refused r) (view_of held stage)
-  refuses r why =
-      step-refused (view_of held stage) call r
-      (ap (λ o. refusal_at (setup_in o) (view_of held stage).book (held stage.store) call) took ∙ sym why)
-
   pub takes :
       (book : Book) (after : Held) (a : Option Painting)
       → None ≡ refusal_in held stage terms call
@@ -37,7 +30,3 @@ module _ {X : Type 0} (held : X → Held) (stage : Stage X) (terms : Terms) (too
       let Made : Option Terms → Type 0 = λ o. Step (view_with o b h) call (given s call) (view_with o book after) in
       let Drawn : Option Painting → Type 0 = λ p. Changed h after (paints s p) (paint_of s p) in
       subst Made (sym took) (step-taken s b book h after call (sym fine) kept (subst Drawn (sym painted) change))
-
--- a call that paints nothing
-pub nothing_painted : (s : Setup) (h : Held) → Changed h h (paints s None) (paint_of s None)
-nothing_painted s h = unchanged h (paints s None) (paint_of s None) (λ p c r. refl)

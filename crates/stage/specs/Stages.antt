@@ -2,7 +2,8 @@
 use Rattle.std.specs.Prelude.{◌≡◌, Some, None, Ok, Err, Option, Result}
 use Rattle.refusal.specs.declared.Refusal.{Refusal}
 use Rattle.store.specs.Held.{Held}
-use Rattle.machine.specs.Calls.{Stamp, Call, Answer, done, opened, refused}
+use Rattle.machine.specs.Calls.{Call, Answer, done, opened, refused}
+use Rattle.machine.specs.declared.calls.Stamp.{Stamp}
 use Rattle.machine.specs.Checks.{Setup}
 use Rattle.machine.specs.Machine.{refusal}
 use Rattle.views.specs.View.{Opened, View, size_of, work_at}
@@ -39,7 +40,7 @@ refusal_in held stage terms call =
 -- ---- tickets and answers
 
 abbrev pub stamp_of : Ticket → Stamp
-stamp_of t = record { mark = t.mark; number = t.number }
+stamp_of t = t.stamp
 
 abbrev pub said_open : Result Ticket Refusal → Answer
 said_open (Ok ticket) = opened (stamp_of ticket)

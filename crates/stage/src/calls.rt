@@ -1,7 +1,6 @@
 // The calls of a stage.
 ghost use Rattle.std.specs.Prelude.{◌≡◌, true, false, set, None, MatchOption, slice_set};
-ghost use Rattle.region.specs.Positions.{has};
-ghost use Rattle.picture.specs.Shapes.{column_of, row_of};
+ghost use Rattle.region.specs.Positions.{has, column_of, row_of};
 ghost use Rattle.machine.specs.Calls.{opening, patching, blending, abandoning, clearing};
 ghost use Rattle.views.specs.View.{View, fresh, image_of, shown_at};
 ghost use Rattle.views.specs.Step.{Step, Start};
@@ -10,9 +9,9 @@ ghost use Rattle.stage.specs.Stages.{view_of, stamp_of, said_open, said_done, sa
 
 use crate::stage::Stage;
 use crate::ticket::Ticket;
-use canvas::{OpenFrame, Terms, blend_frame, copy_picture, draw_patch};
+use canvas::{OpenFrame, Patch, Terms, blend_frame, copy_picture, draw_patch};
 use checks::starts::start_refusal;
-use machine::{FrameRecord, Header, PatchRecord, Rectangle, Shown};
+use machine::{FrameRecord, Header, PatchRecord, Rectangle, Shown, Stamp};
 use picture::Picture;
 use refusal::Refusal;
 use region::Region;
@@ -32,11 +31,26 @@ fn place_of(region: Region, x: i32, y: i32) -> Option<(usize, usize)>
 fn with_flag(mut filled: [bool; 4], slot: u32, flag: bool) -> [bool; 4]
     ensures { result ≡ slice_set filled slot flag }
 {
+    // By the index: after `get_mut` a proof knows none of the flags.
     let slot = slot as usize;
     if slot < 4 {
         filled[slot] = flag;
     }
     filled
+}
+
+// The ticket is spent, unless the call that asked for it was refused: then it comes back.
+fn spent(ticket: Ticket, outcome: Result<(), Refusal>) -> Result<(), (Refusal, Ticket)>
+    ensures said { said_spent result ≡ said_done outcome }
+    ensures back { Back ticket result }
+{
+    match outcome {
+        Ok(()) => {
+            let Ticket { stamp: _ } = ticket;
+            Ok(())
+        }
+        Err(refusal) => Err((refusal, ticket)),
+    }
 }
 
 impl<S: Store> Stage<S> {
@@ -53,7 +67,9 @@ impl<S: Store> Stage<S> {
         }
     }
 
-    // Starts the stage, all slots empty. The second clause is what every run of every stage keeps to.
+    // Starts the stage, all slots empty. Here and in the calls below arguments are plain numbers and slices, as callers have them: whatever is handed
+    // over is taken, or refused in the order of the checks.
+    // The second clause is what every run of every stage keeps to.
     pub fn start(
         &mut self,
         mark: u32,
@@ -64,18 +80,9 @@ impl<S: Store> Stage<S> {
         ensures start { Start (view_of S.Store.held self.old) mark region colors kinds.now (why_not result) (view_of S.Store.held self.new) }
         ensures laws { Laws }
     {
-        if self.terms.is_some() {
-            return Err(Refusal::AlreadyStarted);
-        }
-        let columns = self.store.columns();
-        let rows = self.store.rows();
-        let planes = self.store.planes();
-        if let Some(refusal) = start_refusal(columns, rows, planes, region, colors, kinds) {
-            return Err(refusal);
-        }
-        let Some(terms) = Terms::new(mark, region, colors, kinds) else {
-            return Err(Refusal::ChannelKinds);
-        };
+        Refusal::AlreadyStarted.unless(self.terms.is_none())?;
+        start_refusal(self.size(), region, colors, kinds)?;
+        let terms = Terms::new(mark, region, colors, kinds).ok_or(Refusal::ChannelKinds)?;
         self.terms = Some(terms);
         self.opened = None;
         self.filled = [false; 4];
@@ -92,21 +99,16 @@ impl<S: Store> Stage<S> {
     ) -> Result<Ticket, Refusal>
         ensures { Step (view_of S.Store.held self.old) (opening header records.now (image_of (P.Picture.meaning picture.now))) (said_open result) (view_of S.Store.held self.new) }
     {
-        let Some(terms) = self.terms else {
-            return Err(Refusal::NotStarted);
-        };
-        if let Some(refusal) = self.why_not_open(&terms, header, records, picture) {
-            return Err(refusal);
-        }
-        let Some(frame) = OpenFrame::new(header, records, picture.region()) else {
-            return Err(Refusal::RecordCount);
-        };
+        let terms = self.terms.ok_or(Refusal::NotStarted)?;
+        self.admit_open(&terms, header, records, picture)?;
+        let frame = OpenFrame::new(header, records, picture.region()).ok_or(Refusal::RecordCount)?;
         copy_picture(&terms, &mut self.store, header, picture);
         self.opened = Some(frame);
-        Ok(Ticket {
+        let stamp = Stamp {
             mark: terms.mark,
             number: header.number,
-        })
+        };
+        Ok(Ticket { stamp })
     }
 
     // Draws a part of a sheet onto the open frame.
@@ -121,25 +123,17 @@ impl<S: Store> Stage<S> {
     ) -> Result<(), Refusal>
         ensures { Step (view_of S.Store.held self.old) (patching (stamp_of ticket.now) (record { rectangle = rectangle; x = x; y = y; records = records.now; sheet = image_of (P.Picture.meaning sheet.now) })) (said_done result) (view_of S.Store.held self.new) }
     {
-        let Some(terms) = self.terms else {
-            return Err(Refusal::NotStarted);
-        };
-        if let Some(refusal) = self.why_not_patch(&terms, ticket, rectangle, x, y, records, sheet) {
-            return Err(refusal);
-        }
-        let Some(frame) = self.opened else {
-            return Err(Refusal::NoFrameOpen);
-        };
-        draw_patch(
-            &terms,
-            &mut self.store,
-            &frame,
+        let terms = self.terms.ok_or(Refusal::NotStarted)?;
+        let patch = Patch {
             rectangle,
             x,
             y,
             records,
             sheet,
-        );
+        };
+        self.admit_patch(&terms, ticket, &patch)?;
+        let frame = self.opened.ok_or(Refusal::NoFrameOpen)?;
+        draw_patch(&terms, &mut self.store, &frame, &patch);
         Ok(())
     }
 
@@ -148,16 +142,16 @@ impl<S: Store> Stage<S> {
         ensures step { Step (view_of S.Store.held self.old) (blending (stamp_of ticket)) (said_spent result) (view_of S.Store.held self.new) }
         ensures back { Back ticket result }
     {
-        let Some(terms) = self.terms else {
-            return Err((Refusal::NotStarted, ticket));
-        };
-        if let Some(refusal) = self.why_not_draw(&terms, &ticket) {
-            return Err((refusal, ticket));
-        }
-        let Some(frame) = self.opened else {
-            return Err((Refusal::NoFrameOpen, ticket));
-        };
-        let Ticket { mark: _, number: _ } = ticket;
+        let outcome = self.blend_by(&ticket);
+        spent(ticket, outcome)
+    }
+
+    fn blend_by(&mut self, ticket: &Ticket) -> Result<(), Refusal>
+        ensures { Step (view_of S.Store.held self.old) (blending (stamp_of ticket.now)) (said_done result) (view_of S.Store.held self.new) }
+    {
+        let terms = self.terms.ok_or(Refusal::NotStarted)?;
+        self.admit_draw(&terms, ticket)?;
+        let frame = self.opened.ok_or(Refusal::NoFrameOpen)?;
         blend_frame(&terms, &mut self.store, &frame, &self.filled);
         self.filled = with_flag(self.filled, frame.header.target, true);
         self.opened = None;
@@ -170,13 +164,15 @@ impl<S: Store> Stage<S> {
         ensures step { Step (view_of S.Store.held self.old) (abandoning (stamp_of ticket)) (said_spent result) (view_of S.Store.held self.new) }
         ensures back { Back ticket result }
     {
-        let Some(terms) = self.terms else {
-            return Err((Refusal::NotStarted, ticket));
-        };
-        if let Some(refusal) = self.why_not_abandon(&terms, &ticket) {
-            return Err((refusal, ticket));
-        }
-        let Ticket { number: _, mark: _ } = ticket;
+        let outcome = self.abandon_by(&ticket);
+        spent(ticket, outcome)
+    }
+
+    fn abandon_by(&mut self, ticket: &Ticket) -> Result<(), Refusal>
+        ensures { Step (view_of S.Store.held self.old) (abandoning (stamp_of ticket.now)) (said_done result) (view_of S.Store.held self.new) }
+    {
+        let terms = self.terms.ok_or(Refusal::NotStarted)?;
+        self.admit_abandon(&terms, ticket)?;
         self.opened = None;
         Ok(())
     }
@@ -185,17 +181,14 @@ impl<S: Store> Stage<S> {
     pub fn clear(&mut self, slot: u32) -> Result<(), Refusal>
         ensures { Step (view_of S.Store.held self.old) (clearing slot) (said_done result) (view_of S.Store.held self.new) }
     {
-        let Some(terms) = self.terms else {
-            return Err(Refusal::NotStarted);
-        };
-        if let Some(refusal) = self.why_not_clear(&terms, slot) {
-            return Err(refusal);
-        }
+        let terms = self.terms.ok_or(Refusal::NotStarted)?;
+        self.admit_clear(&terms, slot)?;
         self.filled = with_flag(self.filled, slot, false);
         Ok(())
     }
 
-    // What a slot shows at a channel and a position. Outside comes first: no start, no such slot, channel or position.
+    // What a slot shows at a channel and a position. Outside comes first: no start, no such slot, channel or position. Its answer has two cases without a
+    // sample, so that no `?` on an `Option` serves for both.
     pub fn show(&self, slot: u32, channel: u32, x: i32, y: i32) -> Shown
         ensures { result ≡ shown_at (view_of S.Store.held self.now) slot channel x y }
     {

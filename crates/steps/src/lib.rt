@@ -1,28 +1,26 @@
-// Steps along an axis: which column or row of a region a coordinate is, and rows read from far off.
-// Promise: each function answers for every i64 what its definition says.
-// The words are specs/Gaps.antt, specs/Positions.antt of crate `region`, and specs/Shapes.antt and specs/Steps.antt of crate `picture`.
+// Steps along an axis: where they lead, how many lie between two coordinates, and which column or row of a region a coordinate is.
+// Promise: each function answers for all numbers what its definition says.
+// The words are specs/Gaps.antt, and specs/Positions.antt of crate `region`.
 #![tactic(auto)]
 
-ghost use Rattle.std.specs.Prelude.{◌≡◌, ◌<◌, true, false, ◌-ℤ◌, MatchOption, unsigned_abs};
-ghost use Rattle.region.specs.Positions.{along};
-ghost use Rattle.picture.specs.Shapes.{column_of, row_of};
-ghost use Rattle.picture.specs.Steps.{gap_of};
+ghost use Rattle.std.specs.Prelude.{◌≡◌, ◌<◌, true, false, pos, ◌+ℤ◌, ◌-ℤ◌, MatchOption, unsigned_abs};
+ghost use Rattle.region.specs.Positions.{along, column_of, row_of};
+ghost use Rattle.steps.specs.Gaps.{is_coordinate, gap_of};
 
 use region::Region;
 
-mod far;
-
-pub use far::fill_far;
+// The coordinate `k` further on; none where that is no i32, and there no region lies.
+pub fn onward(from: i64, k: usize) -> Option<i32>
+    ensures { MatchOption result (is_coordinate (from +ℤ pos k) ≡ false) (λ at. at ≡ from +ℤ pos k) }
+{
+    i32::try_from(i128::from(from) + k as i128).ok()
+}
 
 // How far it is from one coordinate up to another; 0 where that comes first.
 pub fn gap(from: i64, to: i64) -> usize
     ensures { result ≡ gap_of from to }
 {
-    if from < to {
-        to.abs_diff(from) as usize
-    } else {
-        0
-    }
+    to.max(from).abs_diff(from) as usize
 }
 
 // Which of the `size` coordinates from `from` on it is, counted from 0; none where it lies elsewhere.
@@ -30,11 +28,7 @@ pub fn index_of(from: i64, size: usize, at: i64) -> Option<usize>
     ensures { MatchOption result (along from size at ≡ false) (λ k. (along from size at ≡ true) × (k < size) × (k ≡ unsigned_abs (at -ℤ from))) }
 {
     let steps = gap(from, at);
-    if from <= at && steps < size {
-        Some(steps)
-    } else {
-        None
-    }
+    (from <= at && steps < size).then_some(steps)
 }
 
 // The column at a coordinate; none where the region does not reach.

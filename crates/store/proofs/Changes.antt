@@ -1,32 +1,14 @@
--- Changes of a store: none, one after another, one said in other words, and a run that grows.
-use Rattle.std.proofs.Common.{◌≡◌, ℕ, ◌+◌, ◌-◌, ◌<◌, ◌≤◌, Bool, true, false, cond, ◌&&◌, ◌||◌, List, get_or, sym, refl, ap, ◌∙◌, arith}
-use lib.Ieee.{Float, nan}
-use Rattle.std.proofs.lemmas.Bool.{cond_both}
-use Rattle.std.proofs.lemmas.Bool.Decides.{nat_tests}
-use Rattle.store.specs.Held.{Held, inside, seen, in_run, run_inside_lem, Changed}
-use Rattle.store.proofs.Inside.{in_run_lem}
-
--- nothing changes where `when` names no place inside
-pub changed_none : (h : Held) (when : ℕ → ℕ → ℕ → Bool) (value : ℕ → ℕ → ℕ → Float) → ((p c r : ℕ) → inside h p c r ≡ true → when p c r ≡ false) → Changed h h when value
-changed_none h when value never = record {
-  columns = refl;
-  rows = refl;
-  planes = refl;
-  rest = refl;
-  lent = refl;
-  places = λ p c r. by_inside p c r (inside h p c r) refl;
-}
-  where
-    by_inside : (p c r : ℕ) (i : Bool) → inside h p c r ≡ i → seen h p c r ≡ cond (i && when p c r) (value p c r) (seen h p c r)
-    by_inside p c r true e = rw (never p c r e)
-    by_inside p c r false e = refl
+-- Changes of a store: one after another, one said in other words, and a run that grows.
+use Rattle.std.proofs.Common.{◌≡◌, ℕ, Bool, true, false, cond, ◌&&◌, ◌||◌, sym, refl, ap, ◌∙◌, arith}
+use lib.Ieee.{Float}
+use Rattle.store.specs.Held.{Held, inside, seen, run_inside, Changed}
 
 module _ {a b : Held} {when : ℕ → ℕ → ℕ → Bool} {value : ℕ → ℕ → ℕ → Float} (change : Changed a b when value) where
   -- a change keeps what is inside
   pub inside_kept : (p c r : ℕ) → inside b p c r ≡ inside a p c r
   inside_kept p c r = rw (change.planes, change.columns, change.rows)
 
-  pub run_kept : (p c r n : ℕ) → run_inside_lem b p c r n ≡ run_inside_lem a p c r n
+  pub run_kept : (p c r n : ℕ) → run_inside b p c r n ≡ run_inside a p c r n
   run_kept p c r n = rw (change.planes, change.rows, change.columns)
 
   -- what is held at a place inside
@@ -63,17 +45,6 @@ module _ {a b : Held} {when : ℕ → ℕ → ℕ → Bool} {value : ℕ → ℕ
       like false w w' v v' s hw hv = refl
       like true w true v v' s hw hv = rw (hw refl) (hv refl refl)
       like true w false v v' s hw hv = rw (hw refl)
-
--- a change of a run and one of the run next to it are one change of the whole run
-pub changed_more : {a b d : Held} (p c r n m : ℕ) {value value' : ℕ → ℕ → ℕ → Float} → Changed a b (in_run p c r n) value → Changed b d (in_run p (c + n) r m) value' → ((k : ℕ) → c + n ≤ k → k < c + n + m → value' p k r ≡ value p k r) → Changed a d (in_run p c r (n + m)) value
-changed_more p c r n m {value} {value'} one next same =
-    changed_like (changed_then one next) (in_run p c r (n + m)) value
-    (λ q k s _. grind (arith, nat_tests))
-    (λ q k s _ _. cond_both (in_run p (c + n) r m q k s) (value' q k s) (value q k s) (λ v. v ≡ value q k s) (λ e. let at = in_run_lem p (c + n) r m q k s e in rw (at.0, at.1) (same k at.2 at.3)) (λ _. refl))
-
--- one more sample of a list, after the run of those before it
-pub changed_next : {a b d : Held} (p c r k : ℕ) (xs : List Float) → Changed a b (in_run p c r k) (λ _ j _. get_or xs (j - c) nan) → Changed b d (in_run p (c + k) r 1) (λ _ _ _. get_or xs k nan) → Changed a d (in_run p c r (k + 1)) (λ _ j _. get_or xs (j - c) nan)
-changed_next p c r k xs one next = changed_more p c r k 1 one next (λ j lo hi. ap (λ i. get_or xs i nan) (omega arith))
 
 -- a change that names more places, where it leaves what was there
 pub changed_wider :

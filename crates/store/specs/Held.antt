@@ -25,8 +25,8 @@ abbrev pub in_run : ℕ → ℕ → ℕ → ℕ → ℕ → ℕ → ℕ → Bool
 in_run p c r n q d s = q == p && (s == r && (nat_le c d && nat_lt d (c + n)))
 
 -- whether a store has all of a run
-abbrev pub run_inside_lem : Held → ℕ → ℕ → ℕ → ℕ → Bool
-run_inside_lem h p c r n = nat_lt p h.planes && (nat_lt r h.rows && nat_le (c + n) h.columns)
+abbrev pub run_inside : Held → ℕ → ℕ → ℕ → ℕ → Bool
+run_inside h p c r n = nat_lt p h.planes && (nat_lt r h.rows && nat_le (c + n) h.columns)
 
 -- After a write: a place that is inside and that `when` names reads as `value` says, every other as before. Sizes, rest and memory stay.
 pub record Changed (before after : Held) (when : ℕ → ℕ → ℕ → Bool) (value : ℕ → ℕ → ℕ → Float) : Type 0 where

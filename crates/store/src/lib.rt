@@ -5,12 +5,13 @@
 
 ghost use Rattle.std.specs.Prelude.{◌≡◌, ℕ, ◌+◌, ◌-◌, ◌<◌, ◌&&◌, length, get_or, IfSome, slice_index_or};
 ghost use Rattle.std.specs.Float.{nan};
-ghost use Rattle.store.specs.Held.{Held, inside, seen, in_run, run_inside_lem, Changed};
+ghost use Rattle.store.specs.Held.{Held, inside, seen, in_run, run_inside, Changed};
 
 pub mod runs;
 
 use runs::row_has;
 
+// A place is told by three plain numbers: a struct of them would be made by every caller and taken apart at once by every make.
 pub trait Store {
     ghost held: { Self → Held };
 
@@ -27,7 +28,7 @@ pub trait Store {
     fn get(&self, plane: usize, column: usize, row: usize) -> f32
         ensures { result ≡ seen (held self.now) plane column row };
 
-    // Writes one place and says yes; outside says no and writes nothing.
+    // Writes one place and says yes; outside says no and writes nothing. A yes or a no, here and at `save`, since there is nothing else to tell.
     fn put(&mut self, plane: usize, column: usize, row: usize, value: f32) -> bool
         ensures said { result ≡ inside (held self.old) plane column row }
         ensures places { Changed (held self.old) (held self.new) (in_run plane column row 1) (λ _ _ _. value) };
@@ -52,7 +53,7 @@ pub trait Store {
 
     // Writes a run and says yes; where a place of it is outside, says no and writes nothing.
     fn save(&mut self, plane: usize, column: usize, row: usize, from: &[f32]) -> bool
-        ensures said { result ≡ run_inside_lem (held self.old) plane column row (length from.now) }
+        ensures said { result ≡ run_inside (held self.old) plane column row (length from.now) }
         ensures places { Changed (held self.old) (held self.new) (λ p c s. result && in_run plane column row (length from.now) p c s) (λ _ c _. get_or from.now (c - column) nan) }
     {
         if plane >= self.planes()

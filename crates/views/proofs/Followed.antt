@@ -9,7 +9,8 @@ use Rattle.refusal.specs.declared.Refusal.TheVariants as why
 use Rattle.region.specs.declared.Region.{Region}
 use Rattle.store.specs.Held.{Held, Changed}
 use Rattle.machine.specs.Calls.{Call, opening, patching, blending, abandoning, clearing, Answer, refused}
-use Rattle.machine.specs.Checks.{Setup, Size, fits_store, planes_needed, kind_of, argument_checks, ticket_checks, closed, checks, start_checks, first_broken, ◌unless◌}
+use Rattle.machine.specs.Checks.{Setup, fits_store, planes_needed, kind_of, argument_checks, ticket_checks, closed, checks, start_checks, first_broken, ◌unless◌}
+use Rattle.machine.specs.declared.calls.Size.{Size}
 use Rattle.machine.specs.Machine.{Work, begun, taken, open_number, refusal, start_refusal, unless_refused, given, next, answer, run, answers, show, setup_of}
 use Rattle.views.specs.View.{Book, fresh, View, size_of, frame_at, work_at, shown_by, shown_at}
 use Rattle.views.specs.Step.{painting, paints, paint_of, book_taken, start_refusal_at, Step}

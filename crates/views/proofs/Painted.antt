@@ -3,7 +3,7 @@ use Rattle.std.proofs.Common.{◌≡◌, ℕ, ◌<◌, Bool, true, false, cond, 
 use mathlib.Core.Path.{fun_ext}
 use Rattle.std.proofs.lemmas.Bool.{cases_Bool, and_parts, and_left, and_right, cond-true, cond-false, cond_both, ltb-true}
 use Rattle.sample.specs.Samples.{zero}
-use Rattle.picture.specs.Shapes.{column_of, row_of}
+use Rattle.region.specs.Positions.{column_of, row_of}
 use Rattle.store.specs.Held.{Held, seen, Changed}
 use Rattle.machine.specs.Calls.{Canvas}
 use Rattle.machine.specs.Checks.{Setup, channels_of, fits_store}

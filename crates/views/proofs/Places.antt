@@ -5,10 +5,10 @@ use Rattle.std.proofs.lemmas.Nat.{div-mul-add}
 use Rattle.std.proofs.lemmas.Int.{ints}
 use Rattle.std.proofs.lemmas.Bool.{cases_Bool, and_parts, and_from, le-leb, lt-ltb, leb-true, ltb-true}
 use Rattle.std.proofs.lemmas.Bool.Decides.{nat_tests}
-use Rattle.region.specs.Positions.{along}
-use Rattle.picture.specs.Shapes.{column_of, row_of}
+use Rattle.region.specs.Positions.{along, column_of, row_of}
 use Rattle.store.specs.Held.{Held, inside}
-use Rattle.machine.specs.Checks.{Setup, Size, channels_of, fits_store, planes_needed}
+use Rattle.machine.specs.Checks.{Setup, channels_of, fits_store, planes_needed}
+use Rattle.machine.specs.declared.calls.Size.{Size}
 use Rattle.machine.specs.Machine.{on_canvas}
 use Rattle.views.specs.View.{size_of, plane_of}
 

@@ -8,8 +8,10 @@ use Rattle.sample.specs.Samples.{zero}
 use Rattle.store.specs.Held.{Held, Changed}
 use Rattle.machine.specs.declared.calls.Header.{Header}
 use Rattle.machine.specs.declared.calls.FrameRecord.{FrameRecord}
-use Rattle.machine.specs.Calls.{Canvas, Image, Patch, Stamp, Call, opening, patching, blending, abandoning, clearing}
-use Rattle.machine.specs.Checks.{Setup, Size, Check, fits_store, checks, argument_checks, state_checks, frame_info}
+use Rattle.machine.specs.Calls.{Canvas, Image, Patch, Call, opening, patching, blending, abandoning, clearing}
+use Rattle.machine.specs.declared.calls.Stamp.{Stamp}
+use Rattle.machine.specs.Checks.{Setup, Check, fits_store, checks, argument_checks, state_checks, frame_info}
+use Rattle.machine.specs.declared.calls.Size.{Size}
 use Rattle.machine.specs.Machine.{Frame, on_canvas, drawn, patch_meets, copied, patched, blended, filled, taken, open_number}
 use Rattle.machine.proofs.Wholes.{Unbroken}
 use Rattle.views.specs.View.{Opened, Book, size_of, frame_slot, canvas_at, frame_at, work_at}

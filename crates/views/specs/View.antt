@@ -3,14 +3,15 @@ use Rattle.std.specs.Prelude.{ℕ, ◌+◌, ◌*◌, Bool, false, cond, List, []
 use Rattle.sample.specs.Samples.{zero}
 use Rattle.region.specs.declared.Region.{Region}
 use Rattle.picture.specs.Meaning.{Meaning, value_at}
-use Rattle.picture.specs.Shapes.{column_of, row_of}
+use Rattle.region.specs.Positions.{column_of, row_of}
 use Rattle.store.specs.Held.{Held, seen}
 use Rattle.blend.specs.declared.records.BlendingInfo.{BlendingInfo}
 use Rattle.machine.specs.declared.calls.Header.{Header}
 use Rattle.machine.specs.declared.calls.Shown.{Shown}
 use Rattle.machine.specs.declared.calls.Shown.TheVariants.{Outside}
 use Rattle.machine.specs.Calls.{Canvas, Image}
-use Rattle.machine.specs.Checks.{Setup, Size, channels_of}
+use Rattle.machine.specs.Checks.{Setup, channels_of}
+use Rattle.machine.specs.declared.calls.Size.{Size}
 use Rattle.machine.specs.Machine.{Work, Frame, on_canvas, drawn, show}
 
 -- a picture in a call, by what it shows

@@ -1,13 +1,14 @@
 -- Runs and rectangles of columns and rows, and what a painter may read.
 use Rattle.std.specs.Prelude.{◌≡◌, ℕ, Bool, ◌&&◌, ◌==◌, nat_le, nat_lt, Float}
 use Rattle.store.specs.Held.{Held, seen}
+use Rattle.walk.specs.declared.parts.Area.{Area}
 
 -- the columns of one row, from the first up to the last
 abbrev pub in_line : (first last row : ℕ) → (column at : ℕ) → Bool
 in_line first last row c r = r == row && (nat_le first c && nat_lt c last)
 
-abbrev pub in_area : (left right top bottom : ℕ) → (column row : ℕ) → Bool
-in_area left right top bottom c r = (nat_le top r && nat_lt r bottom) && (nat_le left c && nat_lt c right)
+abbrev pub in_area : Area → (column row : ℕ) → Bool
+in_area area c r = (nat_le area.top r && nat_lt r area.bottom) && (nat_le area.left c && nat_lt c area.right)
 
 -- what is made at a place depends on the samples of that column and row alone, in whatever plane
 abbrev pub Local : (Held → ℕ → ℕ → ℕ → Float) → Type 0

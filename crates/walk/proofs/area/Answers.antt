@@ -7,13 +7,11 @@ use Rattle.walk.proofs.area.Goals as goal
 
 pub loop-row-preserved : goal.loop-row-preserved
 loop-row-preserved g c =
-    let left = c.args.left in
-    let right = c.args.right in
-    let top = c.args.top in
+    let area = c.args.area in
     let row = c.loop-row.row in
-    let passed : top ≤ row = omega arith in (
+    let passed : area.top ≤ row = omega arith in (
       λ h. omega arith,
-      walked_on (g.B.Painter.touches c.args.painter.now) (in_area left right top row) (in_line left right row) (in_area left right top (row + 1))
-          (g.B.Painter.value c.args.painter.now (g.P.Picture.meaning c.args.picture.now)) c.local.ensures
-          (λ k r. grind (arith, nat_tests)) (λ k r e. grind (arith, nat_tests)) c.loop-row.invariant.1 c.line.ensures,
+      walked_on (in_area (record area { bottom = row })) (in_line area.left area.right row) (λ k r e. grind (arith, nat_tests)) (in_area (record area { bottom = row + 1 }))
+          (g.B.Painter.touches c.args.painter.now) (g.B.Painter.value c.args.painter.now (g.P.Picture.meaning c.args.picture.now)) (g.met.B.Painter.local _ _)
+          (λ k r. grind (arith, nat_tests)) c.loop-row.invariant.1 c.line.ensures,
     )

@@ -1,27 +1,14 @@
--- One channel more.
-use Rattle.std.proofs.Common.{◌≡◌, ◌+◌, cond, ltb, get_or, set, None, sym, ap, ◌∙◌, ⊎_elim, arith, length-set}
-use Rattle.std.proofs.lemmas.List.{get_or-set_same, get_or-set_other}
-use Rattle.std.proofs.lemmas.Bool.{cases_eq, cond-true, lt-ltb}
-use Rattle.std.proofs.lemmas.Bool.Decides.{nat_tests}
+-- Each channel has what its call gave, and there is none past the last.
+use Rattle.std.proofs.Common.{rules, ◌≡◌, ◌<◌, None, cond, ltb, sym, ◌∙◌, ⊎_elim, arith}
+use Rattle.std.proofs.lemmas.Bool.{cases_lt, cond-false, le-ltb}
+use Rattle.std.proofs.lemmas.List.{get_or_past}
+use Rattle.canvas.proofs.Arrays.{each_made}
 use Rattle.canvas.proofs.plans.strokes.Goals as goal
 
-pub loop-channel-preserved : goal.loop-channel-preserved
-loop-channel-preserved g c =
-    let all = c.loop-channel.all in
-    let n = c.loop-channel.channel in
-    let plan = g.P.Plan.planned c.args.plan.now in (
-      simp length-set c.loop-channel.invariant.0,
-      λ ch.
-          ⊎_elim
-          (λ (e : ch ≡ n).
-          ap (λ k. get_or (set all n c.stroke.result) k None) e
-          ∙ get_or-set_same all n c.stroke.result None (omega arith)
-          ∙ c.stroke.ensures
-          ∙ ap plan (sym e)
-          ∙ sym (cond-true (ltb ch (n + 1)) (plan ch) None (lt-ltb ch (n + 1) (omega arith))))
-          (λ ne.
-          get_or-set_other all n ch c.stroke.result None ne
-          ∙ c.loop-channel.invariant.1 ch
-          ∙ ap (λ b. cond b (plan ch) None) (grind (arith, nat_tests)))
-          (cases_eq ch n),
-    )
+pub returns : goal.returns
+returns g c =
+    λ plan follows ch.
+    ⊎_elim
+    (λ (small : ch < 11). each_made _ (λ i stroke. stroke ≡ cond (ltb i c.args.channels) (plan i) None) _ (λ i stroke q call. search (rules, follows)) _ c.from_fn.ensures.items ch small None)
+    (λ past. get_or_past c.from_fn.result ch None (search rules) ∙ sym (cond-false (ltb ch c.args.channels) _ _ (le-ltb _ _ (omega arith))))
+    (cases_lt ch 11)

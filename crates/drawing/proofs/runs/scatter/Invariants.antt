@@ -8,5 +8,5 @@ use Rattle.drawing.proofs.runs.scatter.Given as goal
 abbrev pub invariant-loop-channel : goal.invariant-loop-channel
 invariant-loop-channel g l =
     Changed (g.S.Store.held l.initial.store) (g.S.Store.held l.store)
-    (λ p c r. touches_below l.channel l.drawing p && in_line l.column (l.column + l.count) l.row c r)
-    (λ p c r. room_at l.made (p - l.drawing.first) (c - l.column))
+    (λ p c r. touches_below l.channel l.drawing p && in_line l.run.column (l.run.column + l.run.count) l.run.row c r)
+    (λ p c r. room_at l.made (p - l.drawing.first) (c - l.run.column))

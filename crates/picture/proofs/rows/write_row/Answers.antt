@@ -1,12 +1,13 @@
 -- The places before the row are those below the one gap, and the columns before the buffer those below the other.
-use Rattle.std.proofs.Common.{◌≡◌, ℕ, ◌+◌, ◌-◌, ◌<◌, ◌≤◌, false, cond, ltb, List, length, get_or, ℤ, pos, ◌+ℤ◌, ◌-ℤ◌, nat_abs, ◌≤ℤ◌, ◌<ℤ◌, sym, ap, ◌∙◌, ⊎_elim, arith, w32, SFits}
+use Rattle.std.proofs.Common.{◌≡◌, ℕ, ◌+◌, ◌-◌, ◌<◌, ◌≤◌, false, cond, ltb, List, length, get_or, ℤ, pos, ◌+ℤ◌, ◌-ℤ◌, nat_abs, ◌≤ℤ◌, ◌<ℤ◌, sym, ◌∙◌, ⊎_elim, arith, w64, SFits}
 use lib.Ieee.{Float}
+use Rattle.std.proofs.lemmas.Bool.Decides.{nat_tests}
 use Rattle.std.proofs.lemmas.List.{get_or_past, length-map}
 use Rattle.std.proofs.lemmas.Int.{ints, by_lt_z, to_z-of_z}
-use Rattle.std.proofs.lemmas.Bool.{cases_lt, cond_above, cond_below, cond-true, cond-false, lt-ltb, le-ltb}
+use Rattle.std.proofs.lemmas.Bool.{cases_lt, cond_above, cond_below}
 use Rattle.sample.specs.Samples.{zero}
 use Rattle.region.specs.Positions.{along}
-use Rattle.picture.specs.Steps.{gap_of}
+use Rattle.steps.specs.Gaps.{gap_of}
 use Rattle.picture.proofs.rows.write_row.Goals as goal
 
 -- a column past the end reads as 0.0
@@ -30,17 +31,13 @@ module _ (left x : ℤ) (k lead skip n : ℕ) (e : lead ≡ gap_of x left) (f : 
 
   aligned : (values : List Float) → n ≡ length values → cond (ltb k lead) zero (get_or values (skip + (k - lead)) zero) ≡ cond (along left n (x +ℤ pos k)) (get_or values column zero) zero
   aligned values long =
-      by_lt_z (x +ℤ pos k) left (λ l. cond-true _ _ _ (lt-ltb k lead (before l).0) ∙ sym (cond-false _ _ _ (before l).1))
-      (λ l.
-      cond-false _ _ _ (le-ltb k lead (after l).0)
-      ∙ ap (λ i. get_or values i zero) (after l).1
-      ∙ within values column n long
-      ∙ ap (λ b. cond b (get_or values column zero) zero) (along_column left (x +ℤ pos k) n l))
+      by_lt_z (x +ℤ pos k) left (λ l. let b = before l in grind (arith, nat_tests, b.0, b.1))
+      (λ l. let a = after l in let c = along_column left (x +ℤ pos k) n l in let w = within values column n long in grind (arith, nat_tests, a.0, a.1, c, w))
 
 pub returns : goal.returns
 returns g c =
-    let fl : SFits w32 c.args.left = c.ranges.left in
-    let fx : SFits w32 c.args.x = c.ranges.x in
+    let fl : SFits w64 c.args.left = c.ranges.left in
+    let fx : SFits w64 c.args.x = c.ranges.x in
     λ k h.
     c.write_from.ensures k h
     ∙ aligned c.args.left c.args.x k _ _ (length c.args.row.now) (simp to_z-of_z at c.gap.ensures) (simp to_z-of_z at c.gap-2.ensures) _

@@ -2,8 +2,7 @@
 use Rattle.std.proofs.Common.{sym, ap, ◌∙◌, w32, w64, SFits, rules}
 use Rattle.std.proofs.lemmas.Int.{to_z-of_z}
 use Rattle.std.proofs.lemmas.Bool.{and_from}
-use Rattle.region.specs.Positions.{along}
-use Rattle.picture.specs.Shapes.{column_of, row_of}
+use Rattle.region.specs.Positions.{along, column_of, row_of}
 use Rattle.stage.proofs.calls.place_of.Goals as goal
 
 pub returns : goal.returns

@@ -1,8 +1,0 @@
--- The places below the counter hold the row.
-use Rattle.std.proofs.Common.{◌≡◌, ℕ, ◌<◌, get_or, pos, ◌+ℤ◌}
-use lib.Ieee.{nan}
-use Rattle.picture.specs.Meaning.{value_at}
-use Rattle.steps.proofs.far.fill_far.Given as goal
-
-abbrev pub invariant-loop-k : goal.invariant-loop-k
-invariant-loop-k g l = (k : ℕ) → k < l.k → get_or l.into k nan ≡ value_at (g.P.Picture.meaning l.picture) l.channel (l.x +ℤ pos k) l.y
