@@ -1,5 +1,6 @@
--- The numbers of places make an order.
-use Rattle.std.proofs.Common.{arith}
+-- The numbers of places make an order, and no run is lent.
+use Rattle.std.proofs.Common.{◌≡◌, ℕ, true, false, arith}
+use Rattle.std.proofs.lemmas.Bool.{false≢true}
 use Rattle.layout.specs.Layout.{Numbers}
 use Rattle.store.proofs.Inside.{inside_parts}
 use Rattle.layout.proofs.Numbers.{number_below, digits_same}
@@ -16,3 +17,6 @@ interleaved_numbers = record {
   along = λ columns rows planes p c r. omega arith;
   wide = λ planes some. some;
 }
+
+pub none_lent : false ≡ true → (planes : ℕ) → planes ≡ 1
+none_lent lends planes = absurd (false≢true lends)

@@ -1,9 +1,9 @@
 // A store over a slice that the caller lends, in any order of places.
-ghost use Rattle.std.specs.Prelude.{◌≡◌, ℕ, ◌+◌, ◌<◌, ◌&&◌, ◌==◌, length, is_some, IfSome, slice_index_or};
+ghost use Rattle.std.specs.Prelude.{◌≡◌, ℕ, ◌+◌, ◌<◌, ◌&&◌, length, is_some, IfSome, slice_index_or};
 ghost use Rattle.std.specs.Float.{nan};
 ghost use Rattle.store.specs.Held.{inside, seen, run_inside};
 ghost use Rattle.layout.specs.Layout.{ordered, Found};
-ghost use Rattle.layout.specs.Slices.{held_of};
+ghost use Rattle.layout.specs.Slices.{held_of, made_of};
 
 use crate::runs::{read_run, write_run};
 use crate::{Digit, Order, planes_of};
@@ -21,7 +21,8 @@ pub struct SliceStore<'a, O> {
 
 impl<'a, O: Order> SliceStore<'a, O> {
     pub fn new(samples: &'a mut [f32], columns: usize, rows: usize) -> SliceStore<'a, O>
-        ensures { held_of O.number result ≡ ordered O.number samples.old samples.entry.ghost_name columns rows }
+        ensures held { held_of O.number result ≡ ordered O.number samples.old samples.entry.ghost_name columns rows }
+        ensures made { made_of O.make result ≡ O.make samples.old samples.entry.ghost_name columns rows }
     {
         SliceStore {
             samples,
@@ -94,12 +95,12 @@ impl<'a, O: Order> Store for SliceStore<'a, O> {
         }
     }
 
-    // Lends the runs that lie in one piece.
+    // Lends each run that is inside, in an order that lends.
     fn lend(&self, plane: usize, column: usize, row: usize, count: usize) -> Option<&[f32]>
         ensures run { IfSome result (λ run. (length run.now ≡ count) × ((k : ℕ) → k < count → slice_index_or run.now k nan ≡ seen (held_of O.number self.now) plane (column + k) row)) }
-        ensures whole { is_some result ≡ (O.stride (held_of O.number self.now).planes == 1 && run_inside (held_of O.number self.now) plane column row count) }
+        ensures whole { is_some result ≡ (O.LENDS && run_inside (held_of O.number self.now) plane column row count) }
     {
-        if self.stride() != 1 || !row_has(self.columns, column, count) {
+        if !O::LENDS || !row_has(self.columns, column, count) {
             return None;
         }
         let first = self.number(plane, 0, row)? + column;

@@ -3,6 +3,7 @@ use Rattle.std.specs.Prelude.{ℕ, List, Float}
 use Rattle.std.specs.Borrow.{GName}
 use Rattle.store.specs.Held.{Held}
 use Rattle.layout.specs.Layout.{number_of, held_by}
+use Rattle.layout.specs.Slices.{made_of}
 use Rattle.layout.specs.declared.slices.SliceStore.{SliceStore}
 use Rattle.planar.specs.declared.PlaneAfterPlane.{PlaneAfterPlane}
 
@@ -14,4 +15,4 @@ abbrev pub planar : List Float → GName → ℕ → ℕ → Held
 planar samples name columns rows = held_by (planar_number columns rows) samples name columns rows
 
 abbrev pub planar_of : SliceStore PlaneAfterPlane → Held
-planar_of s = planar s.samples.now s.samples.ghost_name s.columns s.rows
+planar_of s = made_of planar s

@@ -2,21 +2,32 @@
 // Its meaning is specs/Make.antt, and in prose docs/STORES.md.
 #![tactic(auto)]
 
-ghost use Rattle.planar.specs.Make.{planar_number};
+ghost use Rattle.std.specs.Prelude.{true, refl};
+ghost use Rattle.planar.specs.Make.{planar_number, planar};
 ghost use Rattle.planar.specs.Numbers.{planar_numbers};
 
 use layout::{Digit, Order, SliceStore, number_of};
 
-// Runs lie in one piece.
+// Runs lie in one piece, and are lent.
 #[derive(Clone, Copy)]
 pub struct PlaneAfterPlane;
 
 impl Order for PlaneAfterPlane {
+    const LENDS: bool = true;
+
+    ghost LENDS = { true };
+
     ghost number = { λ columns rows _. planar_number columns rows };
 
     ghost stride = { λ _. 1 };
 
+    ghost make = { planar };
+
     ghost numbers = { planar_numbers };
+
+    ghost makes = { λ _ _ _ _. refl };
+
+    ghost side_by_side = { λ _ _. refl };
 
     fn number(plane: Digit, column: Digit, row: Digit) -> Option<usize> {
         number_of(plane, row, column)

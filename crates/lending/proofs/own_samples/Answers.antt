@@ -12,7 +12,7 @@ use Rattle.lending.proofs.own_samples.Goals as goal
 
 pub returns : goal.returns
 returns c =
-    let made = c.new-store.ensures in
+    let made = c.new-store.ensures.made in
     let wrote = c.write_one.ensures in
     let named = sym (wrote.lent ∙ ap (λ (h : Held). h.lent) made) in
     let columns = wrote.columns ∙ ap (λ (h : Held). h.columns) made in
