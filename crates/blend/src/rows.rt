@@ -1,5 +1,6 @@
 // One formula over rows of samples: it is chosen once, outside the loop over the columns. A closure that calls `BlendMode::apply` was tried: it chooses the
-// formula again for each sample, and takes more than twice the time.
+// formula again for each sample, and takes more than twice the time. The closures own what they read: by a reference the loop would read it again for each
+// sample, as its writes might change it, and rows of MulAdd take eight times as long.
 ghost use Rattle.std.specs.Prelude.{◌≡◌, ℕ, slice_index_or, Float};
 ghost use Rattle.std.specs.Float.{nan};
 ghost use Rattle.formulas.specs.declared.Operands.{Operands};
@@ -61,13 +62,13 @@ pub fn blend_single(
     match mode {
         BlendMode::Replace => draw(base, from, Operands::replace),
         BlendMode::Add => draw(base, from, Operands::add),
-        BlendMode::Mul(clamp) => draw(base, from, |o| mul(clamp, o)),
-        BlendMode::Blend(alpha) => draw(base, from, |o| alpha.blend(o)),
-        BlendMode::MulAdd(alpha) => draw(base, from, |o| alpha.mul_add(o)),
+        BlendMode::Mul(clamp) => draw(base, from, move |o| mul(clamp, o)),
+        BlendMode::Blend(alpha) => draw(base, from, move |o| alpha.blend(o)),
+        BlendMode::MulAdd(alpha) => draw(base, from, move |o| alpha.mul_add(o)),
         BlendMode::MixAlpha { clamp, swapped } => draw(
             base,
             from,
-            |o| mix_alpha(clamp, swapped, o),
+            move |o| mix_alpha(clamp, swapped, o),
         ),
         BlendMode::Skip => {}
     }

@@ -1,2 +1,3 @@
+pub mod Shown
 pub mod Sides
 pub mod Sound

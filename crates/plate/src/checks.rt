@@ -7,7 +7,6 @@ use crate::{Plate, parts};
 use byte_fields::{byte_at, word_at};
 use machine::records::any_unknown;
 use refusal::Refusal;
-use region::Region;
 
 // The longest plate in bytes.
 const LONGEST_PLATE: u64 = 1_073_741_824;
@@ -50,17 +49,15 @@ impl<'a> Plate<'a> {
     {
         Refusal::ChannelKinds.unless(channels_allowed(bytes))?;
         let header = parts::header(bytes);
+        Refusal::FrameLimits.unless(header.is_allowed())?;
         let extras = parts::extras(bytes);
-        // By one match: a region that is refused and a place that is refused have the same answer.
-        match Region::with_size(header.width, header.height) {
-            Ok(region) if header.is_allowed() => Ok(Plate {
-                bytes,
-                channels: (parts::colors(bytes) + extras) as u8,
-                start: (64 + 4 * (extras + 1)) as u8,
-                region,
-            }),
-            _ => Err(Refusal::FrameLimits),
-        }
+        Ok(Plate {
+            bytes,
+            channels: (parts::colors(bytes) + extras) as u8,
+            start: (64 + 4 * (extras + 1)) as u8,
+            width: header.width as u16,
+            height: header.height as u16,
+        })
     }
 
     // The offsets, the count and the length are those that the channels and the sides ask for.
@@ -70,11 +67,9 @@ impl<'a> Plate<'a> {
         let start = u64::from(word_at(self.bytes, 48));
         let count = u64::from(word_at(self.bytes, 52));
         let length = u64::from(parts::length(self.bytes));
-        let width = u64::from(self.region.width());
-        let height = u64::from(self.region.height());
         word_at(self.bytes, 44) == 64
             && start == u64::from(self.start)
-            && count == u64::from(self.channels) * width * height
+            && count == u64::from(self.channels) * u64::from(self.width) * u64::from(self.height)
             && length == start + 4 * count
             && length <= LONGEST_PLATE
     }

@@ -3,7 +3,7 @@
 // The definition is specs/Format.antt, and in prose docs/PLATES.md.
 #![tactic(auto)]
 
-ghost use Rattle.std.specs.Prelude.{◌≡◌, ◌≤◌, pos};
+ghost use Rattle.std.specs.Prelude.{◌≡◌, ◌≤◌};
 ghost use Rattle.plate.specs.Format.{colors_of, extras_of, channels_of, header_of, samples_from};
 
 use arrayvec::ArrayVec;
@@ -20,18 +20,19 @@ mod samples;
 pub use reader::Reader;
 
 // The bytes from the plate's first on, and of its header what every sample needs, read once: `start` is the first sample's byte.
+// Two sides and no region: a plate is copied and kept, and asked for each of its samples.
 #[derive(Clone, Copy)]
 pub struct Plate<'a> {
     bytes: &'a [u8],
     channels: u8,
     start: u8,
-    region: Region,
+    width: u16,
+    height: u16,
     ghost few: { (colors_of bytes.now ≤ 3) × (extras_of bytes.now ≤ 8) },
     ghost short: { ((header_of bytes.now).width ≤ 16384) × ((header_of bytes.now).height ≤ 16384) },
     ghost channels_told: { channels ≡ channels_of bytes.now },
     ghost start_told: { start ≡ samples_from (extras_of bytes.now) },
-    ghost from_origin: { (region.left ≡ pos 0) × (region.top ≡ pos 0) },
-    ghost sides_told: { (region.width ≡ (header_of bytes.now).width) × (region.height ≡ (header_of bytes.now).height) },
+    ghost sides_told: { (width ≡ (header_of bytes.now).width) × (height ≡ (header_of bytes.now).height) },
 }
 
 impl<'a> Plate<'a> {
@@ -75,12 +76,12 @@ impl<'a> Picture for Plate<'a> {
     }
 
     fn region(&self) -> Region {
-        self.region
+        samples::sides(self.width, self.height)
     }
 
     fn sample(&self, channel: usize, x: i32, y: i32) -> f32 {
         // By a match, here and for grids: after a `map_or` the proof stays open.
-        match self.number_of(channel, x, y) {
+        match samples::number_of(self.channels, self.width, self.height, channel, x, y) {
             Some(number) => float_at(self.bytes, usize::from(self.start) + 4 * number),
             None => 0.0,
         }

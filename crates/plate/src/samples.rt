@@ -1,23 +1,46 @@
-// The numbers of a plate's samples.
-use crate::Plate;
-use steps::{column_of, row_of};
+// The region of a plate's samples, and their numbers.
+ghost use Rattle.std.specs.Prelude.{◌≡◌, ◌^◌, ◌<◌, true, false, ◌&&◌, pos, MatchOption, nat_lt, unsigned_abs};
+ghost use Rattle.region.specs.Positions.{along};
+ghost use Rattle.plate.specs.Format.{sides as region_of, sample_number};
 
-impl Plate<'_> {
-    ghost use Rattle.std.specs.Prelude.{◌≡◌, ◌^◌, ◌<◌, true, false, ◌&&◌, MatchOption, nat_lt};
-    ghost use Rattle.region.specs.Positions.{has, column_of, row_of};
-    ghost use Rattle.plate.specs.Format.{sample_number};
+use region::Region;
 
-    // Which sample stands at a position of a channel; none where there is no such position.
-    pub(crate) fn number_of(&self, channel: usize, x: i32, y: i32) -> Option<usize>
-        ensures { let r = self.now.region in MatchOption result ((nat_lt channel self.now.channels && has r x y) ≡ false) (λ n. ((nat_lt channel self.now.channels && has r x y) ≡ true) × (n ≡ sample_number r.width r.height channel (column_of r x) (row_of r y)) × (n < 2 ^ 48)) }
-    {
-        let column = column_of(self.region, i64::from(x))?;
-        let row = row_of(self.region, i64::from(y))?;
-        if channel >= usize::from(self.channels) {
-            return None;
-        }
-        let width = self.region.width() as usize;
-        let height = self.region.height() as usize;
-        Some((channel * height + row) * width + column)
+// From the origin; the empty region where the sides make none.
+pub(crate) fn sides(width: u16, height: u16) -> Region
+    ensures { result ≡ region_of width height }
+{
+    match Region::with_size(u32::from(width), u32::from(height)) {
+        Ok(region) => region,
+        Err(_) => Region::empty(),
     }
+}
+
+// Which of the `size` coordinates from 0 on it is; none where it lies elsewhere.
+fn index_of(size: u16, at: i32) -> Option<usize>
+    ensures { MatchOption result (along (pos 0) size at ≡ false) (λ k. (along (pos 0) size at ≡ true) × (k < size) × (k ≡ unsigned_abs at)) }
+{
+    if 0 <= at && at < i32::from(size) {
+        Some(at as usize)
+    } else {
+        None
+    }
+}
+
+// Which sample stands at a position of a channel; none where there is no such position.
+pub(crate) fn number_of(
+    channels: u8,
+    width: u16,
+    height: u16,
+    channel: usize,
+    x: i32,
+    y: i32,
+) -> Option<usize>
+    ensures { MatchOption result ((nat_lt channel channels && (along (pos 0) width x && along (pos 0) height y)) ≡ false) (λ n. ((nat_lt channel channels && (along (pos 0) width x && along (pos 0) height y)) ≡ true) × (n ≡ sample_number width height channel (unsigned_abs x) (unsigned_abs y)) × (n < 2 ^ 48)) }
+{
+    let column = index_of(width, x)?;
+    let row = index_of(height, y)?;
+    if channel >= usize::from(channels) {
+        return None;
+    }
+    Some((channel * usize::from(height) + row) * usize::from(width) + column)
 }

@@ -1,6 +1,7 @@
 -- Facts of axes and regions by their positions.
-use Rattle.std.proofs.Common.{◌≡◌, ℕ, ◌<◌, Bool, true, false, ◌&&◌, ◌||◌, ltb, ℤ, pos, ◌+ℤ◌, neg_ℤ, Decides, refl, ⊎_elim, arith}
-use Rattle.std.proofs.lemmas.Int.{ints}
+use Rattle.std.proofs.Common.{◌≡◌, ℕ, ◌<◌, Bool, true, false, ◌&&◌, ◌||◌, ltb, ℤ, pos, ◌+ℤ◌, ◌-ℤ◌, ◌≤ℤ◌, nat_abs, neg_ℤ, Decides, refl, ⊎_elim, arith}
+use Rattle.std.specs.Int.{int_max, int_min}
+use Rattle.std.proofs.lemmas.Int.{ints, clamps}
 use Rattle.std.proofs.lemmas.Bool.{and_parts, and_from, and_left, eqb-true, lt-ltb, both_ways, cases_Bool, or_cases, or_left, or_right}
 use Rattle.std.proofs.lemmas.Bool.Decides.{nat_tests}
 use Rattle.region.specs.Bounds.{is_span, is_region}
@@ -50,6 +51,16 @@ first-has r e = and_from _ _ (along-first r.left r.width (sides r e).0) (along-f
 
 pub last_has : (r : Region) → is_empty r ≡ false → has r (last_of r.left r.width) (last_of r.top r.height) ≡ true
 last_has r e = and_from _ _ (along-last r.left r.width (sides r e).0) (along-last r.top r.height (sides r e).1)
+
+-- from one coordinate it is as far as they differ up to a greater one
+pub far_up : (from to : ℤ) (k : ℕ) → from ≤ℤ to → k ≡ nat_abs (to -ℤ from) → to ≡ from +ℤ pos k
+far_up from to k up e = grind (arith, ints)
+
+pub overlap_along : (a b from to at : ℤ) (m n k : ℕ) → from ≡ int_max a b → to ≡ int_max (int_min (a +ℤ pos m) (b +ℤ pos n)) from → to ≡ from +ℤ pos k → along from k at ≡ (along a m at && along b n at)
+overlap_along a b from to at m n k e f g = grind (arith, ints, clamps)
+
+pub overlap_span : (a b from to : ℤ) (m n k : ℕ) → is_span a m ≡ true → is_span b n ≡ true → from ≡ int_max a b → to ≡ int_max (int_min (a +ℤ pos m) (b +ℤ pos n)) from → to ≡ from +ℤ pos k → is_span from k ≡ true
+overlap_span a b from to m n k p q e f g = grind (arith, ints, clamps)
 
 -- what `contains` tests says whether every position of the second is one of the first
 pub covers_decides : (r s : Region) → Decides (is_empty s || (within r.left r.width s.left s.width && within r.top r.height s.top s.height)) (Holds r s)

@@ -36,7 +36,10 @@ impl Region {
     pub fn intersection(self, rhs: Region) -> Region
         ensures { (x y : ℤ) → has result x y ≡ (has self x y && has rhs x y) }
     {
-        self.cut(rhs.left, rhs.top, rhs.width, rhs.height)
+        Region::of_spans(
+            self.across().overlap(rhs.across()),
+            self.down().overlap(rhs.down()),
+        )
     }
 
     // The part that a target covers once that is moved by (x, y).

@@ -24,8 +24,8 @@ pub(crate) fn is_span(from: i32, size: u32) -> bool
     past(from, size) <= i64::from(i32::MAX)
 }
 
-// How far it is from one coordinate up to another, 0 where that comes first. Like `gap` of crate `steps`, it is one line of
-// std's methods: at i64 it would want a cast back, and a fact that it fits u32.
+// How far it is from one coordinate up to another, 0 where that comes first: `gap` of crate `steps` at i32, which through that would want a cast back, and
+// a fact that it fits u32.
 fn distance(from: i32, to: i32) -> u32
     ensures { pos result ≡ int_max (to -ℤ from) (pos 0) }
 {
@@ -67,6 +67,18 @@ impl Span {
         Span {
             from,
             size: distance(from, to),
+        }
+    }
+
+    // The positions that both axes have, with none where they lie apart.
+    pub(crate) fn overlap(self, rhs: Span) -> Span
+        ensures { (at : ℤ) → along result.from result.size at ≡ (along self.from self.size at && along rhs.from rhs.size at) }
+    {
+        let from = self.from.max(rhs.from);
+        let to = self.end().min(rhs.end()).max(from);
+        Span {
+            from,
+            size: to.abs_diff(from),
         }
     }
 

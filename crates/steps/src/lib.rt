@@ -16,18 +16,22 @@ pub fn onward(from: i64, k: usize) -> Option<i32>
     i32::try_from(i128::from(from) + k as i128).ok()
 }
 
-// How far it is from one coordinate up to another; 0 where that comes first.
+// How far it is from one coordinate up to another; 0 where that comes first. By an `if`, which costs each short row a few steps less than `max` and `abs_diff`.
 pub fn gap(from: i64, to: i64) -> usize
     ensures { result ≡ gap_of from to }
 {
-    to.max(from).abs_diff(from) as usize
+    if from < to {
+        to.abs_diff(from) as usize
+    } else {
+        0
+    }
 }
 
 // Which of the `size` coordinates from `from` on it is, counted from 0; none where it lies elsewhere.
 pub fn index_of(from: i64, size: usize, at: i64) -> Option<usize>
     ensures { MatchOption result (along from size at ≡ false) (λ k. (along from size at ≡ true) × (k < size) × (k ≡ unsigned_abs (at -ℤ from))) }
 {
-    let steps = gap(from, at);
+    let steps = at.abs_diff(from) as usize;
     (from <= at && steps < size).then_some(steps)
 }
 
