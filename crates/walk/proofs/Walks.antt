@@ -7,6 +7,10 @@ use Rattle.store.specs.Held.{Held, inside, seen, Changed}
 use Rattle.store.proofs.Changes.{changed_then, changed_like}
 use Rattle.walk.specs.Rectangles.{in_line, Local}
 
+pub both : (t f s : Bool) → ((t && f) || (t && s)) ≡ (t && (f || s))
+both true f s = refl
+both false f s = refl
+
 module _ {a b e : Held} (first second : ℕ → ℕ → Bool) (apart : (c r : ℕ) → second c r ≡ true → first c r ≡ false) where
   -- two painters, one after the other
   pub walked_then :
@@ -39,10 +43,6 @@ module _ {a b e : Held} (first second : ℕ → ℕ → Bool) (apart : (c r : �
       changed_like (walked_then touches touches value value local one next) (λ p c r. touches p && whole c r) (value a)
       (λ p c r _. rw (both (touches p) (first c r) (second c r), joined c r))
       (λ p c r _ _. cond_both (touches p && second c r) (value a p c r) (value a p c r) (λ v. v ≡ value a p c r) (λ _. refl) (λ _. refl))
-    where
-      both : (t f s : Bool) → ((t && f) || (t && s)) ≡ (t && (f || s))
-      both true f s = refl
-      both false f s = refl
 
 -- a run more of a row
 pub row_on :
