@@ -3,7 +3,6 @@ use Rattle.std.specs.Prelude.{ℕ, List, Float, length}
 use Rattle.std.specs.Borrow.{GName}
 use Rattle.store.specs.Held.{Held}
 use Rattle.layout.specs.Layout.{planes_of, number_of, held_by}
-use Rattle.layout.specs.Slices.{made_of}
 use Rattle.layout.specs.declared.slices.SliceStore.{SliceStore}
 use Rattle.interleaved.specs.declared.PlanesTogether.{PlanesTogether}
 
@@ -16,4 +15,4 @@ interleaved samples name columns rows =
     held_by (interleaved_number columns (planes_of (length samples) columns rows)) samples name columns rows
 
 abbrev pub interleaved_of : SliceStore PlanesTogether → Held
-interleaved_of s = made_of interleaved s
+interleaved_of s = interleaved s.samples.now s.samples.ghost_name s.columns s.rows

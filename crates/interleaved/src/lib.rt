@@ -3,7 +3,7 @@
 #![tactic(auto)]
 
 ghost use Rattle.std.specs.Prelude.{false, refl};
-ghost use Rattle.interleaved.specs.Make.{interleaved_number, interleaved};
+ghost use Rattle.interleaved.specs.Make.{interleaved_number, interleaved, interleaved_of};
 ghost use Rattle.interleaved.specs.Numbers.{interleaved_numbers, none_lent};
 
 use layout::{Digit, Order, SliceStore, number_of};
@@ -23,9 +23,13 @@ impl Order for PlanesTogether {
 
     ghost make = { interleaved };
 
+    ghost means = { interleaved_of };
+
     ghost numbers = { interleaved_numbers };
 
     ghost makes = { λ _ _ _ _. refl };
+
+    ghost meant = { λ _. refl };
 
     ghost side_by_side = { none_lent };
 

@@ -3,11 +3,13 @@ ghost use Rattle.std.specs.Prelude.{◌≡◌, ℕ, Bool, true, List, Float};
 ghost use Rattle.std.specs.Borrow.{GName};
 ghost use Rattle.store.specs.Held.{Held};
 ghost use Rattle.layout.specs.Layout.{in_range, ordered, Told, Numbers};
+ghost use Rattle.layout.specs.Slices.{held_of};
+ghost use Rattle.layout.specs.declared.slices.SliceStore.{SliceStore};
 
 use crate::Digit;
 
 pub trait Order {
-    // whether runs are lent: they lie in one piece
+    // whether runs are lent; what is lent lies in one piece
     const LENDS: bool;
 
     ghost LENDS: { Bool };
@@ -18,8 +20,10 @@ pub trait Order {
     // How far apart the samples of a row lie, by the planes.
     ghost stride: { ℕ → ℕ };
 
-    // What a store in this order means, in full: of the samples, the name of their memory, the columns and the rows.
+    // What is made, in full, of samples, the name of their memory, columns and rows, and what a store in this order means.
     ghost make: { List Float → GName → ℕ → ℕ → Held };
+
+    ghost means: { SliceStore Self → Held };
 
     // The number of a place; none where it is outside, or the number passes 64 bits.
     fn number(plane: Digit, column: Digit, row: Digit) -> Option<usize>
@@ -31,8 +35,10 @@ pub trait Order {
     // What makes an order of these.
     ghost numbers: { Numbers number stride };
 
-    // It is the store that has these numbers.
+    // Both are the store that has these numbers.
     ghost makes: { (samples : List Float) (name : GName) (columns rows : ℕ) → make samples name columns rows ≡ ordered number samples name columns rows };
+
+    ghost meant: { (s : SliceStore Self) → means s ≡ held_of number s };
 
     // What is lent lies side by side.
     ghost side_by_side: { LENDS ≡ true → (planes : ℕ) → stride planes ≡ 1 };

@@ -3,7 +3,7 @@ ghost use Rattle.std.specs.Prelude.{◌≡◌, ℕ, ◌+◌, ◌<◌, ◌&&◌, 
 ghost use Rattle.std.specs.Float.{nan};
 ghost use Rattle.store.specs.Held.{inside, seen, run_inside};
 ghost use Rattle.layout.specs.Layout.{ordered, Found};
-ghost use Rattle.layout.specs.Slices.{held_of, made_of};
+ghost use Rattle.layout.specs.Slices.{held_of};
 
 use crate::runs::{read_run, write_run};
 use crate::{Digit, Order, planes_of};
@@ -22,7 +22,7 @@ pub struct SliceStore<'a, O> {
 impl<'a, O: Order> SliceStore<'a, O> {
     pub fn new(samples: &'a mut [f32], columns: usize, rows: usize) -> SliceStore<'a, O>
         ensures held { held_of O.number result ≡ ordered O.number samples.old samples.entry.ghost_name columns rows }
-        ensures made { made_of O.make result ≡ O.make samples.old samples.entry.ghost_name columns rows }
+        ensures made { O.means result ≡ O.make samples.old samples.entry.ghost_name columns rows }
     {
         SliceStore {
             samples,

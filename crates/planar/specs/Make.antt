@@ -3,7 +3,6 @@ use Rattle.std.specs.Prelude.{ℕ, List, Float}
 use Rattle.std.specs.Borrow.{GName}
 use Rattle.store.specs.Held.{Held}
 use Rattle.layout.specs.Layout.{number_of, held_by}
-use Rattle.layout.specs.Slices.{made_of}
 use Rattle.layout.specs.declared.slices.SliceStore.{SliceStore}
 use Rattle.planar.specs.declared.PlaneAfterPlane.{PlaneAfterPlane}
 
@@ -15,4 +14,4 @@ abbrev pub planar : List Float → GName → ℕ → ℕ → Held
 planar samples name columns rows = held_by (planar_number columns rows) samples name columns rows
 
 abbrev pub planar_of : SliceStore PlaneAfterPlane → Held
-planar_of s = made_of planar s
+planar_of s = planar s.samples.now s.samples.ghost_name s.columns s.rows

@@ -3,7 +3,7 @@
 #![tactic(auto)]
 
 ghost use Rattle.std.specs.Prelude.{true, refl};
-ghost use Rattle.planar.specs.Make.{planar_number, planar};
+ghost use Rattle.planar.specs.Make.{planar_number, planar, planar_of};
 ghost use Rattle.planar.specs.Numbers.{planar_numbers};
 
 use layout::{Digit, Order, SliceStore, number_of};
@@ -23,9 +23,13 @@ impl Order for PlaneAfterPlane {
 
     ghost make = { planar };
 
+    ghost means = { planar_of };
+
     ghost numbers = { planar_numbers };
 
     ghost makes = { λ _ _ _ _. refl };
+
+    ghost meant = { λ _. refl };
 
     ghost side_by_side = { λ _ _. refl };
 
